@@ -1,0 +1,12 @@
+//! Modules of the LLVM subset as data: items, bodies, instructions, and the symbols of a program.
+#![tactic(auto)]
+
+mod body;
+mod constant;
+mod item;
+mod symbol;
+
+pub use body::{Arg, Block, Body, Inst, Phi, Term};
+pub use constant::{Const, Operand};
+pub use item::{Func, Item, Linkage, Module, Param, Var};
+pub use symbol::{Builtin, Intrinsic, Sym, SymName, Target};

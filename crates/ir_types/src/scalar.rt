@@ -1,0 +1,87 @@
+//! Scalar types, function types, and the operations of the subset.
+use sqlite_items::Items as List;
+
+/// A type of one value: an integer of 1, 8, 16, 32 or 64 bits, or a pointer.
+#[derive(Clone, Copy, Debug, PartialEq, Eq, Hash)]
+pub enum Scalar {
+    I1,
+    I8,
+    I16,
+    I32,
+    I64,
+    Ptr,
+}
+
+/// How a narrow integer is widened at a call: not said, `signext` or `zeroext`.
+#[derive(Clone, Copy, Debug, PartialEq, Eq, Hash)]
+pub enum Ext {
+    Plain,
+    Signed,
+    Unsigned,
+}
+
+/// The type of a function. `returns` is `None` for `void`.
+#[derive(Debug, Drop)]
+pub struct FnType {
+    pub params: List<Scalar>,
+    pub variadic: bool,
+    pub returns: Option<Scalar>,
+}
+
+/// What is known of a value before the program runs. A number is taken modulo 2^w of its integer type.
+#[derive(Clone, Copy, Debug, PartialEq, Eq, Hash)]
+pub enum Known {
+    Unknown,
+    Num(u64),
+    Null,
+}
+
+/// The integer operations of two operands.
+#[derive(Clone, Copy, Debug, PartialEq, Eq, Hash)]
+pub enum BinOp {
+    Add,
+    Sub,
+    Mul,
+    Udiv,
+    Sdiv,
+    Urem,
+    Srem,
+    Shl,
+    Lshr,
+    Ashr,
+    And,
+    Or,
+    Xor,
+}
+
+/// The flags of an integer operation: where one doesn't hold, the result is poison.
+#[derive(Clone, Copy, Debug, PartialEq, Eq, Hash)]
+pub struct Flags {
+    pub nuw: bool,
+    pub nsw: bool,
+    pub exact: bool,
+    pub disjoint: bool,
+}
+
+/// The predicates of `icmp`.
+#[derive(Clone, Copy, Debug, PartialEq, Eq, Hash)]
+pub enum Pred {
+    Eq,
+    Ne,
+    Ugt,
+    Uge,
+    Ult,
+    Ule,
+    Sgt,
+    Sge,
+    Slt,
+    Sle,
+}
+
+/// The casts between integer types.
+#[derive(Clone, Copy, Debug, PartialEq, Eq, Hash)]
+pub enum CastOp {
+    Zext,
+    Sext,
+    Trunc,
+}
