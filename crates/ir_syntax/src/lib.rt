@@ -3,6 +3,7 @@
 
 mod body;
 mod constant;
+mod copies;
 mod item;
 mod symbol;
 
