@@ -1,0 +1,5 @@
+pub mod Formed
+pub mod FormedBody
+pub mod FormedItem
+pub mod Results
+pub mod Suits

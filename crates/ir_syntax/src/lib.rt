@@ -3,7 +3,9 @@
 
 mod body;
 mod constant;
+mod copies;
 mod item;
+mod results;
 mod symbol;
 
 pub use body::{Arg, Block, Body, Inst, Phi, Term};

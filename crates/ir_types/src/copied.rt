@@ -1,8 +1,10 @@
 //! Values that can be made again, and the copies of lists, options and pairs.
 ghost use Rattle.std.specs.Prelude.{◌≡◌, ◌++◌, drop, take, IfOk};
 
-use crate::{Bytes, OutOfMemory, Scalar};
-use sqlite_items::Items as List;
+use crate::{
+    BinOp, Bytes, CastOp, Ext, Flags, FnType, Index, Known, OutOfMemory, Pred, Scalar, Stride, Ty,
+};
+use sqlite_items::{Boxed, Items as List};
 use std::alloc::Global;
 
 /// A value that can be made again. The copy is the value: contracts can't tell the two apart.
@@ -32,6 +34,108 @@ impl Copied for usize {
 impl Copied for Scalar {
     fn copied(&self, _alloc: Global) -> Result<Scalar, OutOfMemory> {
         Ok(*self)
+    }
+}
+
+impl Copied for u8 {
+    fn copied(&self, _alloc: Global) -> Result<u8, OutOfMemory> {
+        Ok(*self)
+    }
+}
+
+impl Copied for bool {
+    fn copied(&self, _alloc: Global) -> Result<bool, OutOfMemory> {
+        Ok(*self)
+    }
+}
+
+impl Copied for i64 {
+    fn copied(&self, _alloc: Global) -> Result<i64, OutOfMemory> {
+        Ok(*self)
+    }
+}
+
+impl Copied for Ext {
+    fn copied(&self, _alloc: Global) -> Result<Ext, OutOfMemory> {
+        Ok(*self)
+    }
+}
+
+impl Copied for Known {
+    fn copied(&self, _alloc: Global) -> Result<Known, OutOfMemory> {
+        Ok(*self)
+    }
+}
+
+impl Copied for BinOp {
+    fn copied(&self, _alloc: Global) -> Result<BinOp, OutOfMemory> {
+        Ok(*self)
+    }
+}
+
+impl Copied for Flags {
+    fn copied(&self, _alloc: Global) -> Result<Flags, OutOfMemory> {
+        Ok(*self)
+    }
+}
+
+impl Copied for Pred {
+    fn copied(&self, _alloc: Global) -> Result<Pred, OutOfMemory> {
+        Ok(*self)
+    }
+}
+
+impl Copied for CastOp {
+    fn copied(&self, _alloc: Global) -> Result<CastOp, OutOfMemory> {
+        Ok(*self)
+    }
+}
+
+impl Copied for Index {
+    fn copied(&self, _alloc: Global) -> Result<Index, OutOfMemory> {
+        Ok(*self)
+    }
+}
+
+impl Copied for Stride {
+    fn copied(&self, _alloc: Global) -> Result<Stride, OutOfMemory> {
+        Ok(*self)
+    }
+}
+
+impl Copied for FnType {
+    fn copied(&self, alloc: Global) -> Result<FnType, OutOfMemory> {
+        Ok(FnType {
+            params: self.params.copied(alloc)?,
+            variadic: self.variadic,
+            returns: self.returns,
+        })
+    }
+}
+
+/// A copy of a type. It recurses as deep as the type nests.
+fn copied_type(ty: &Ty, alloc: Global) -> Result<Ty, OutOfMemory>
+    ensures { IfOk result (λ copy. copy ≡ ty.now) }
+{
+    match ty {
+        Ty::One(scalar) => Ok(Ty::One(*scalar)),
+        Ty::Array(count, element) => {
+            let element = copied_type(element.get(), alloc)?;
+            Ok(Ty::Array(*count, Boxed::new(alloc, element)?))
+        }
+        Ty::Struct(fields) => {
+            let mut copies = List::new(alloc);
+            for field in fields.as_slice() {
+                copies.push(copied_type(field, alloc)?)?;
+            }
+            Ok(Ty::Struct(copies))
+        }
+    }
+}
+
+impl Copied for Ty {
+    fn copied(&self, alloc: Global) -> Result<Ty, OutOfMemory> {
+        copied_type(self, alloc)
     }
 }
 

@@ -1,0 +1,4 @@
+pub mod Extents
+pub mod Nestings
+pub mod Walks
+pub mod WorkedLayouts
