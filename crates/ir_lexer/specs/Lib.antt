@@ -1,0 +1,4 @@
+pub mod Signs
+pub mod Spelled
+pub mod Tokens
+pub mod Front
