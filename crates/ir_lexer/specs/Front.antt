@@ -30,9 +30,13 @@ with_sign n = if n == 0 then 0 else suc n
 unfoldable pub closing_len : List ℕ → ℕ
 closing_len bytes = let n = prefix_len is_no_quote bytes in if nat_lt n (length bytes) then suc n else 0
 
+-- with this sign in front
+abbrev pub behind : ℕ → (List ℕ → ℕ) → List ℕ → ℕ
+behind sign len [] = 0
+behind sign len (b ∷ bs) = if b == sign then with_sign (len bs) else 0
+
 unfoldable pub quoted_len : List ℕ → ℕ
-quoted_len [] = 0
-quoted_len (b ∷ bs) = if b == 34 then with_sign (closing_len bs) else 0
+quoted_len bytes = behind 34 closing_len bytes
 
 unfoldable pub name_len : List ℕ → ℕ
 name_len [] = 0
@@ -46,8 +50,7 @@ integer_len [] = 0
 integer_len (b ∷ bs) = if b == 45 then with_sign (prefix_len is_ascii_digit bs) else prefix_len is_ascii_digit (b ∷ bs)
 
 unfoldable pub c_string_len : List ℕ → ℕ
-c_string_len [] = 0
-c_string_len (b ∷ bs) = if b == 99 then with_sign (quoted_len bs) else 0
+c_string_len bytes = behind 99 quoted_len bytes
 
 unfoldable pub gap_len : List ℕ → ℕ
 gap_len [] = 0
