@@ -57,11 +57,11 @@ closing_measures = record {
 }
 
 -- one more for a sign in front
-with_sign_of : (n : ℕ) → 0 < n → with_sign n ≡ suc n
+pub with_sign_of : (n : ℕ) → 0 < n → with_sign n ≡ suc n
 with_sign_of zero some = absurd (omega arith)
 with_sign_of (suc n) some = let e : eqb (suc n) 0 ≡ false = ne_eqb (suc n) 0 (λ h. omega arith) in rw e refl
 
-with_sign_some : (n : ℕ) → 0 < with_sign n → 0 < n
+pub with_sign_some : (n : ℕ) → 0 < with_sign n → 0 < n
 with_sign_some zero some = some
 with_sign_some (suc n) some = omega arith
 
@@ -96,6 +96,17 @@ behind_measures sign test len measures = record { within = within; found = found
 pub quoted_measures : Measures is_quoted quoted_len
 unfolding is_quoted quoted_len
 quoted_measures = behind_measures 34 closes closing_len closing_measures
+
+-- there is one quoted string at the front at most
+pub quoted_only : (xs : List ℕ) (m : ℕ) → m ≤ length xs → is_quoted (take m xs) ≡ true → m ≡ quoted_len xs
+unfolding is_quoted quoted_len closing_len
+quoted_only xs zero le passes = absurd (false≢true passes)
+quoted_only [] (suc m) le passes = absurd (omega arith)
+quoted_only (x ∷ xs) (suc m) le passes =
+    let parts = and_parts (eqb x 34) _ passes in
+    let only = closes_only xs m (omega arith) parts.1 in
+    let closed : ltb (prefix_len is_no_quote xs) (length xs) ≡ true = lt-ltb _ _ only.1 in
+    rw (parts.0, closed, with_sign_of (suc (prefix_len is_no_quote xs)) (omega arith)) (omega (arith, only.0))
 
 pub c_string_measures : Measures (after 99 is_quoted) c_string_len
 unfolding c_string_len
