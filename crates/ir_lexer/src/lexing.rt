@@ -1,12 +1,51 @@
 //! From bytes to tokens.
-ghost use Rattle.std.specs.Prelude.{◌≡◌};
+ghost use Rattle.std.specs.Prelude.{◌≡◌, ◌⊎◌, IfOk, IfErr, length, List as Seq};
+ghost use Rattle.std.specs.List.{All};
+ghost use Rattle.ir_lexer.specs.Tokens.{Tokens, IsBadByte, IsCause, IsTokenIn, InOrder, Answers};
+ghost use Rattle.ir_lexer.specs.declared.token.Token.{Token as AToken};
 
+use crate::front::{front, gap_len};
 use crate::token::{Kind, LexFault, Token};
 use ir_types::List;
 use std::alloc::Global;
 
-/// The tokens of a text.
-pub fn lex(alloc: Global, bytes: &[u8]) -> Result<List<Token>, LexFault> {
-    let _ = bytes;
-    Ok(List::new(alloc))
+/// The tokens of the text of a module, by the rules of the LLVM Language Reference Manual.
+///
+/// Blanks are space, tab, carriage return and line feed. A comment runs from `;` up to the next line
+/// feed or the end. Between them the longest token is taken. A token's offsets count bytes of the
+/// text, and the tokens come in the order of the text.
+///
+/// `BadByte` carries the least offset from which no token, no blank and no comment goes on.
+/// `OutOfMemory` says that the allocator refused memory.
+pub fn lex(alloc: Global, bytes: &[u8]) -> Result<List<Token>, LexFault>
+    // What is answered is the tokens of the text.
+    ensures ok { IfOk result (λ ts. Tokens bytes.now ts) }
+    // A fault other than want of memory carries the bad byte.
+    ensures err { IfErr result (IsCause bytes.now) }
+{
+    let mut tokens = List::new(alloc);
+    let mut at = 0;
+    let mut inside = false;
+    while at < bytes.len() {
+        let rest = &bytes[at..];
+        let gap = gap_len(rest);
+        if gap > 0 {
+            at += gap;
+            inside = false;
+        } else {
+            match front(rest, inside) {
+                Some((kind, len)) => {
+                    let to = at + len;
+                    let token = Token { kind, from: at, to };
+                    if tokens.push(token).is_err() {
+                        return Err(LexFault::OutOfMemory);
+                    }
+                    at = to;
+                    inside = matches!(kind, Kind::Int);
+                }
+                None => return Err(LexFault::BadByte { at }),
+            }
+        }
+    }
+    Ok(tokens)
 }
