@@ -46,30 +46,37 @@ no_gap (b ∷ bs) none = by_test (is_blank b)
         (λ semicolon. absurd (let h = rw (no_blank, semicolon) at none in omega arith))
         (λ no_semicolon. rw (no_blank, no_semicolon) refl))
 
-pub gap_more : (bytes : List ℕ) (ts : List Token) (at : ℕ) → LexedTo bytes ts at → 0 < gap_len (drop at bytes) → LexedTo bytes ts (at + gap_len (drop at bytes))
-gap_more bytes ts at lexed some =
-    let gap = gap_next (drop at bytes) some in
-    let is : Next (drop at bytes) (Some gap.piece) = subst (Next (drop at bytes)) gap.is (next_is (drop at bytes)) in
-    let more = lexed_more bytes ts at gap.piece lexed is.begins in
-    let same : ts ++ tokens_of at (gap.piece ∷ []) ≡ ts = ap (λ us. ts ++ us) (gap.no_token at) ∙ append-nil ts in
-    subst (λ us. LexedTo bytes us (at + gap_len (drop at bytes))) same
-    (subst (λ n. LexedTo bytes (ts ++ tokens_of at (gap.piece ∷ [])) (at + n)) gap.length more)
+-- The code's rest is the bytes from the place on.
 
-pub token_more : (bytes : List ℕ) (ts : List Token) (at : ℕ) (kind : Kind) (len : ℕ) → LexedTo bytes ts at → gap_len (drop at bytes) ≡ 0 → front (drop at bytes) ≡ Some (kind, len) → LexedTo bytes (ts ++ record { kind = kind; from = at; to = at + len } ∷ []) (at + len)
-token_more bytes ts at kind len lexed none e =
-    let is : Next (drop at bytes) (Some (Lexeme kind len)) = subst (Next (drop at bytes)) (no_gap (drop at bytes) none ∙ ap lexeme e) (next_is (drop at bytes)) in
-    lexed_more bytes ts at (Lexeme kind len) lexed is.begins
+pub gap_more : (bytes : List ℕ) (ts : List Token) (at : ℕ) (rest : List ℕ) (gap : ℕ) → rest ≡ drop at bytes → LexedTo bytes ts at → gap ≡ gap_len rest → 0 < gap → LexedTo bytes ts (at + gap)
+gap_more bytes ts at rest gap is_rest lexed is_gap some =
+    let found_gap = gap_next rest (omega (arith, is_gap)) in
+    let is : Next rest (Some found_gap.piece) = subst (Next rest) found_gap.is (next_is rest) in
+    let begins : BeginsWith (drop at bytes) found_gap.piece = subst (λ r. BeginsWith r found_gap.piece) is_rest is.begins in
+    let more = lexed_more bytes ts at found_gap.piece lexed begins in
+    let same : ts ++ tokens_of at (found_gap.piece ∷ []) ≡ ts = ap (λ us. ts ++ us) (found_gap.no_token at) ∙ append-nil ts in
+    subst (λ us. LexedTo bytes us (at + gap)) same
+    (subst (λ n. LexedTo bytes (ts ++ tokens_of at (found_gap.piece ∷ [])) (at + n)) (found_gap.length ∙ sym is_gap) more)
 
-pub bad_here : (bytes : List ℕ) (ts : List Token) (at : ℕ) → LexedTo bytes ts at → at < length bytes → gap_len (drop at bytes) ≡ 0 → front (drop at bytes) ≡ None → IsBadByte bytes at
-bad_here bytes ts at lexed lt none e =
-    let is : NothingBegins (drop at bytes) = subst (Next (drop at bytes)) (no_gap (drop at bytes) none ∙ ap lexeme e) (next_is (drop at bytes)) in
-    lexed_bad bytes ts at lexed lt is
+front_next : (rest : List ℕ) (gap : ℕ) (o : Option (Kind × ℕ)) → gap ≡ gap_len rest → gap ≤ 0 → o ≡ front rest → Next rest (lexeme o)
+front_next rest gap o is_gap none is_front =
+    let no : gap_len rest ≡ 0 = omega (arith, is_gap) in
+    subst (Next rest) (no_gap rest no ∙ ap lexeme (sym is_front)) (next_is rest)
 
--- a token that was found has bytes, and is within the rest
-pub front_bounds : (rest : List ℕ) (kind : Kind) (len : ℕ) → front rest ≡ Some (kind, len) → (0 < len) × (len ≤ length rest)
-front_bounds rest kind len e =
-    let is : IsFound rest kind len = subst (Found rest) e (found rest) in
-    (is.some, is.within)
+pub token_more : (bytes : List ℕ) (ts : List Token) (at : ℕ) (rest : List ℕ) (gap : ℕ) (kind : Kind) (len : ℕ) → rest ≡ drop at bytes → LexedTo bytes ts at → gap ≡ gap_len rest → gap ≤ 0 → Some (kind, len) ≡ front rest → LexedTo bytes (ts ++ record { kind = kind; from = at; to = at + len } ∷ []) (at + len)
+token_more bytes ts at rest gap kind len is_rest lexed is_gap none is_front =
+    let is = front_next rest gap (Some (kind, len)) is_gap none is_front in
+    lexed_more bytes ts at (Lexeme kind len) lexed (subst (λ r. BeginsWith r (Lexeme kind len)) is_rest is.begins)
+
+pub bad_here : (bytes : List ℕ) (ts : List Token) (at : ℕ) (rest : List ℕ) (gap : ℕ) → rest ≡ drop at bytes → LexedTo bytes ts at → at < length bytes → gap ≡ gap_len rest → gap ≤ 0 → None ≡ front rest → IsBadByte bytes at
+bad_here bytes ts at rest gap is_rest lexed lt is_gap none is_front =
+    lexed_bad bytes ts at lexed lt (subst NothingBegins is_rest (front_next rest gap None is_gap none is_front))
+
+-- a token that was found has bytes, and ends within the text
+pub front_bounds : (bytes : List ℕ) (at : ℕ) (rest : List ℕ) (kind : Kind) (len : ℕ) → rest ≡ drop at bytes → at < length bytes → Some (kind, len) ≡ front rest → (0 < len) × (at + len ≤ length bytes)
+front_bounds bytes at rest kind len is_rest lt is_front =
+    let is : IsFound rest kind len = subst (Found rest) (sym is_front) (found rest) in
+    (is.some, omega (arith, is.within, ap length is_rest, length-drop at bytes))
 
 -- behind an integer that is no label none begins within the same run
 integer_no_label : (rest : List ℕ) (len : ℕ) → front rest ≡ Some (kinds.Int, len) → is_labelled rest ≡ false
@@ -84,10 +91,10 @@ integer_no_label rest len e = false_from_ne_true _ (λ colon.
     let there : Reach (Some (kinds.Int, len)) kinds.Label (suc n) = subst (λ o. Reach o kinds.Label (suc n)) e (reach rest kinds.Label (suc n) within label) in
     ⊎_elim (λ less. omega arith) (λ same. omega (arith, same.0)) there)
 
-pub inside_after : (bytes : List ℕ) (at len : ℕ) → front (drop at bytes) ≡ Some (kinds.Int, len) → is_labelled (drop (at + len) bytes) ≡ false
-inside_after bytes at len e =
-    let rest : List ℕ = drop at bytes in
+pub inside_after : (bytes : List ℕ) (at : ℕ) (rest : List ℕ) (kind : Kind) (len : ℕ) → rest ≡ drop at bytes → Some (kind, len) ≡ front rest → kind ≡ kinds.Int → is_labelled (drop (at + len) bytes) ≡ false
+inside_after bytes at rest kind len is_rest is_front is_int =
+    let e : front rest ≡ Some (kinds.Int, len) = sym is_front ∙ ap (λ k. Some (k, len)) is_int in
     let is : IsFound rest kinds.Int len = subst (Found rest) e (found rest) in
     let most = integer_measures.most rest len is.within is.spelled in
     let run : len ≤ prefix_len is_name_byte rest = omega (arith, integer_in_run rest) in
-    ap is_labelled (sym (drop-drop len at bytes)) ∙ labelled_inside rest len run ∙ integer_no_label rest len e
+    ap is_labelled (sym (drop-drop len at bytes) ∙ ap (drop len) (sym is_rest)) ∙ labelled_inside rest len run ∙ integer_no_label rest len e

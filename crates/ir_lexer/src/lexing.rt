@@ -37,8 +37,9 @@ pub fn lex(alloc: Global, bytes: &[u8]) -> Result<List<Token>, LexFault>
                 Some((kind, len)) => {
                     let to = at + len;
                     let token = Token { kind, from: at, to };
-                    if tokens.push(token).is_err() {
-                        return Err(LexFault::OutOfMemory);
+                    match tokens.push(token) {
+                        Ok(()) => {}
+                        Err(_) => return Err(LexFault::OutOfMemory),
                     }
                     at = to;
                     inside = matches!(kind, Kind::Int);
