@@ -1,6 +1,7 @@
 -- The token at the front is spelled so, and whatever else is spelled there is no longer.
 use Rattle.std.proofs.Common.{◌≡◌, ℕ, zero, suc, ◌+◌, ◌-◌, ◌<◌, ◌≤◌, Bool, true, false, cond, not, ◌&&◌, ◌||◌, ◌⊎◌, List, [], ◌∷◌, length, take, drop, get_or, eqb, ltb, leb, refl, sym, ap, subst, ◌∙◌, ⊎_elim, inl, inr, arith, Option, Some, None}
 use Rattle.std.proofs.lemmas.Bool.{and_from, and_parts, or_cases, or_left, or_right, or_from, and_right, cases_Bool, cases_lt, eqb-true, eq-eqb, ne_eqb, eqb-false, lt-ltb, ltb-true, false≢true, both_ways, cond_both}
+use Rattle.std.proofs.lemmas.List.{take_all}
 use Rattle.std.proofs.lemmas.List.Sums.{prefix_len-le-length}
 use Rattle.std.specs.List.{list_all, list_any, prefix_len}
 use Rattle.std.specs.Char.{is_ascii_digit}
@@ -416,3 +417,22 @@ pub reach : (rest : List ℕ) (kind : Kind) (m : ℕ) → m ≤ length rest → 
 reach [] kind zero le passes = absurd (both_ways _ (nothing_spelled kind) passes)
 reach [] kind (suc m) le passes = absurd (omega arith)
 reach (b ∷ bs) kind m le passes = reach_first b bs kind m le passes
+
+-- no bytes are tokens of two kinds
+
+one_front : (o : Option (Kind × ℕ)) (text : List ℕ) (kind other : Kind) → Found text o → Reach o kind (length text) → Reach o other (length text) → kind ≡ other
+one_front None text kind other is a b = absurd a
+one_front (Some f) text kind other is a b = ⊎_elim
+    (λ less. absurd (omega (arith, is.within)))
+    (λ same. ⊎_elim
+        (λ less. absurd (omega (arith, is.within)))
+        (λ too. same.1 ∙ sym too.1)
+        b)
+    a
+
+pub one_kind : (kind other : Kind) (text : List ℕ) → is_spelled kind text ≡ true → is_spelled other text ≡ true → kind ≡ other
+one_kind kind other text a b =
+    let whole : take (length text) text ≡ text = take_all (length text) text (omega arith) in
+    one_front (front text) text kind other (found text)
+        (reach text kind (length text) (omega arith) (ap (is_spelled kind) whole ∙ a))
+        (reach text other (length text) (omega arith) (ap (is_spelled other) whole ∙ b))

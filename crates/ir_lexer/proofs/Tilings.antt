@@ -1,13 +1,15 @@
 -- A text is tiled in one way, up to its end or up to one bad byte.
-use Rattle.std.proofs.Common.{◌≡◌, ℕ, zero, suc, ◌+◌, ◌-◌, ◌<◌, ◌≤◌, Bool, true, false, ◌⊎◌, List, [], ◌∷◌, ◌++◌, length, take, drop, refl, sym, ap, subst, ◌∙◌, ⊎_elim, inl, inr, arith, Option, Some, None, length-drop, add-zero}
+use Rattle.std.proofs.Common.{◌≡◌, ℕ, zero, suc, ◌+◌, ◌-◌, ◌<◌, ◌≤◌, Bool, true, false, ◌⊎◌, List, [], ◌∷◌, ◌++◌, length, take, drop, refl, sym, ap, subst, ◌∙◌, ⊎_elim, inl, inr, arith, Option, Some, None, Result, Ok, Err, IfOk, IfErr, length-drop}
 use Rattle.std.proofs.lemmas.Bool.{cases_lt}
 use Rattle.std.proofs.lemmas.List.{drop_all}
 use Rattle.std.proofs.lemmas.List.Elements.{All-from_recursion}
 use Rattle.std.specs.List.{All, AllByRecursion}
 use Rattle.ir_lexer.specs.declared.token.Kind.{Kind}
 use Rattle.ir_lexer.specs.declared.token.Token.{Token}
+use Rattle.ir_lexer.specs.declared.token.LexFault.{LexFault}
+use Rattle.ir_lexer.specs.declared.token.LexFault.TheVariants.{BadByte, OutOfMemory}
 use Rattle.ir_lexer.specs.Spelled.{is_spelled}
-use Rattle.ir_lexer.specs.Tokens.{IsLongest, NothingBegins, Piece, Blank, Comment, Lexeme, len_of, BeginsWith, Tiles, tokens_of, Tokens, IsBadByte, InOrder, IsTokenIn}
+use Rattle.ir_lexer.specs.Tokens.{IsLongest, NothingBegins, Piece, Blank, Comment, Lexeme, len_of, BeginsWith, Tiles, tokens_of, Tokens, IsBadByte, IsCause, Answers, InOrder, IsTokenIn}
 use Rattle.ir_lexer.proofs.Pieces.{next, Next, IsNext, next_is, next_only, nothing_next, one_piece, piece_bounds}
 
 -- the end of a tiling
@@ -145,3 +147,23 @@ tokens_in bytes ts is = subst (All (IsTokenIn bytes)) (sym is.tokens) (All-from_
 
 pub tokens_in_order : (bytes : List ℕ) (ts : List Token) → Tokens bytes ts → InOrder 0 ts (length bytes)
 tokens_in_order bytes ts is = subst (λ us. InOrder 0 us (length bytes)) (sym is.tokens) (order_tiling bytes 0 (length bytes) is.pieces is.tile)
+
+-- the answer of the code against the text's one answer
+
+pub answers_tokens : (bytes : List ℕ) (r : Result (List Token) LexFault) → IfOk r (λ ts. Tokens bytes ts) → IfErr r (IsCause bytes) → (ts : List Token) → Tokens bytes ts → Answers r (Ok ts)
+answers_tokens bytes (Ok us) ok err ts is = ap (λ x. Ok x) (tokens_once bytes ts us is ok)
+answers_tokens bytes (Err (BadByte at)) ok err ts is = absurd (tokens_or_bad bytes ts at is err)
+answers_tokens bytes (Err OutOfMemory) ok err ts is = tt
+
+pub answers_bad : (bytes : List ℕ) (r : Result (List Token) LexFault) → IfOk r (λ ts. Tokens bytes ts) → IfErr r (IsCause bytes) → (at : ℕ) → IsBadByte bytes at → Answers r (Err (BadByte at))
+answers_bad bytes (Ok us) ok err at is = absurd (tokens_or_bad bytes us at ok is)
+answers_bad bytes (Err (BadByte other)) ok err at is = ap (λ x. Err (BadByte x)) (bad_once bytes at other is err)
+answers_bad bytes (Err OutOfMemory) ok err at is = tt
+
+pub answers_each : (bytes : List ℕ) (r : Result (List Token) LexFault) → IfOk r (λ ts. Tokens bytes ts) → IfOk r (λ ts. All (IsTokenIn bytes) ts)
+answers_each bytes (Ok us) ok = tokens_in bytes us ok
+answers_each bytes (Err e) ok = tt
+
+pub answers_in_order : (bytes : List ℕ) (r : Result (List Token) LexFault) → IfOk r (λ ts. Tokens bytes ts) → IfOk r (λ ts. InOrder 0 ts (length bytes))
+answers_in_order bytes (Ok us) ok = tokens_in_order bytes us ok
+answers_in_order bytes (Err e) ok = tt

@@ -1,5 +1,5 @@
 -- The tokens of a text: with blanks and comments between them they tile its bytes, the longest one at each place.
-use Rattle.std.specs.Prelude.{◌≡◌, ℕ, ◌+◌, ◌-◌, ◌<◌, ◌≤◌, Bool, IsTrue, IsFalse, List, [], ◌∷◌, length, take, drop, slice_index, Result, Ok, Err, ◌⊎◌, All}
+use Rattle.std.specs.Prelude.{◌≡◌, ℕ, ◌+◌, ◌-◌, ◌<◌, ◌≤◌, Bool, IsTrue, IsFalse, List, [], ◌∷◌, length, take, drop, slice_index, Result, Ok, Err}
 use Rattle.std.specs.List.{list_all}
 use Rattle.ir_lexer.specs.declared.token.Kind.{Kind}
 use Rattle.ir_lexer.specs.declared.token.Token.{Token}
@@ -89,11 +89,13 @@ pub record IsTokenIn (bytes : List ℕ) (t : Token) : Type 0 where
   pub within : t.to ≤ length bytes
   pub spelled : IsTrue (is_spelled t.kind (text_of bytes t))
 
--- The answer is this one, unless memory ran out.
+-- The answer is the wanted one, unless memory ran out.
 abbrev pub Answers : {X : Type 0} → Result X LexFault → Result X LexFault → Type 0
-Answers answer wanted = (answer ≡ wanted) ⊎ (answer ≡ Err OutOfMemory)
+Answers (Err OutOfMemory) wanted = Unit {0}
+Answers (Err (BadByte at)) wanted = wanted ≡ Err (BadByte at)
+Answers (Ok x) wanted = wanted ≡ Ok x
 
--- A fault other than want of memory is the bad byte.
+-- A fault other than want of memory carries the bad byte.
 abbrev pub IsCause : List ℕ → LexFault → Type 0
 IsCause bytes (BadByte at) = IsBadByte bytes at
 IsCause bytes OutOfMemory = Unit {0}

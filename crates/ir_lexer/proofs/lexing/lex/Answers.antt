@@ -1,37 +1,14 @@
-use Rattle.std.proofs.Common.{◌≡◌, ◌+◌, ◌<◌, ◌≤◌, true, false, drop, length, refl, sym, ap, ◌∙◌, arith, subst, rules}
-use Rattle.std.proofs.lemmas.Bool.{false≢true, both_ways}
-use Rattle.std.proofs.lemmas.List.{take_rest}
-use Rattle.ir_lexer.specs.Front.{gap_len, front, is_labelled}
-use Rattle.ir_lexer.proofs.Tilings.{LexedTo}
-use Rattle.ir_lexer.proofs.Steps.{gap_more, token_more, bad_here, front_bounds, inside_after}
+use Rattle.ir_lexer.proofs.Tilings.{answers_tokens, answers_bad, answers_each, answers_in_order}
 use Rattle.ir_lexer.proofs.lexing.lex.Goals as goal
-use Rattle.ir_lexer.proofs.lexing.lex.Goals.{in-Int, in_default}
 
-pub loop-at-preserved-then-gap-gt0 : goal.loop-at-preserved-then-gap-gt0
-loop-at-preserved-then-gap-gt0 c = record {
-  lexed = gap_more c.args.bytes.now c.loop-at.tokens c.loop-at.at _ _ (take_rest c.args.bytes.now c.loop-at.at) c.loop-at.invariant.lexed c.gap_len-gap.ensures.exact c.if-gap-gt0.true;
-  plain = λ inside. absurd (false≢true inside);
-}
+pub returns-clause-tokens : goal.returns-clause-tokens
+returns-clause-tokens c = answers_tokens c.args.bytes.now _ c.read_tokens.ensures.ok c.read_tokens.ensures.err
 
-pub overflow_add-to : goal.overflow_add-to
-overflow_add-to c =
-    let bounds = front_bounds c.args.bytes.now c.loop-at.at _ c.in-Some.kind c.in-Some.len (take_rest c.args.bytes.now c.loop-at.at) c.loop-at-test.true c.in-Some.ensures.exact in
-    omega (arith, bounds.1)
+pub returns-clause-bad_byte : goal.returns-clause-bad_byte
+returns-clause-bad_byte c = answers_bad c.args.bytes.now _ c.read_tokens.ensures.ok c.read_tokens.ensures.err
 
-pub loop-at-smaller : goal.loop-at-smaller
-loop-at-smaller c =
-    let bounds = front_bounds c.args.bytes.now c.loop-at.at _ c.in-Some.kind c.in-Some.len (take_rest c.args.bytes.now c.loop-at.at) c.loop-at-test.true c.in-Some.ensures.exact in
-    omega (arith, bounds.0, bounds.1)
+pub returns-clause-each : goal.returns-clause-each
+returns-clause-each c = answers_each c.args.bytes.now _ c.read_tokens.ensures.ok
 
-pub loop-at-preserved : goal.loop-at-preserved
-loop-at-preserved c = record {
-  lexed = subst (λ ts. LexedTo c.args.bytes.now ts (c.loop-at.at + c.in-Some.len)) (sym c.in-Ok.ensures.ok)
-    (token_more c.args.bytes.now c.loop-at.tokens c.loop-at.at _ _ c.in-Some.kind c.in-Some.len (take_rest c.args.bytes.now c.loop-at.at) c.loop-at.invariant.lexed c.gap_len-gap.ensures.exact c.if-gap-gt0.false c.in-Some.ensures.exact);
-  plain = λ inside. elim c.match-matches.branch [
-      in-Int w ↦ inside_after c.args.bytes.now c.loop-at.at _ c.in-Some.kind c.in-Some.len (take_rest c.args.bytes.now c.loop-at.at) c.in-Some.ensures.exact w.in-Int.is
-    | in_default w ↦ absurd (both_ways _ w.matches-is inside) ];
-}
-
-pub returns-in-None-clause-err : goal.returns-in-None-clause-err
-returns-in-None-clause-err c =
-    bad_here c.args.bytes.now c.loop-at.tokens c.loop-at.at _ _ (take_rest c.args.bytes.now c.loop-at.at) c.loop-at.invariant.lexed c.loop-at-test.true c.gap_len-gap.ensures.exact c.if-gap-gt0.false c.in-None.ensures.exact
+pub returns-clause-in_order : goal.returns-clause-in_order
+returns-clause-in_order c = answers_in_order c.args.bytes.now _ c.read_tokens.ensures.ok

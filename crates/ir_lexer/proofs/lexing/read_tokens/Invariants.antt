@@ -1,7 +1,7 @@
 use Rattle.std.proofs.Common.{◌≡◌, ◌-◌, true, false, length, drop}
 use Rattle.ir_lexer.specs.Front.{is_labelled}
 use Rattle.ir_lexer.proofs.Tilings.{LexedTo}
-use Rattle.ir_lexer.proofs.lexing.lex.Given as goal
+use Rattle.ir_lexer.proofs.lexing.read_tokens.Given as goal
 
 abbrev pub invariant-loop-at : goal.invariant-loop-at
 invariant-loop-at l = record {
