@@ -2,3 +2,4 @@ pub mod Signs
 pub mod Spelled
 pub mod Tokens
 pub mod Front
+pub mod Texts
