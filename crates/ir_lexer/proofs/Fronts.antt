@@ -1,6 +1,6 @@
 -- The token at the front is spelled so, and whatever else is spelled there is no longer.
-use Rattle.std.proofs.Common.{◌≡◌, ℕ, zero, suc, ◌+◌, ◌-◌, ◌<◌, ◌≤◌, Bool, true, false, cond, not, ◌&&◌, ◌||◌, ◌⊎◌, List, [], ◌∷◌, length, take, drop, get_or, eqb, ltb, leb, refl, sym, ap, subst, ◌∙◌, ⊎_elim, inl, inr, arith, Option, Some, None}
-use Rattle.std.proofs.lemmas.Bool.{and_from, and_parts, or_cases, or_left, or_right, or_from, and_right, cases_Bool, cases_lt, eqb-true, eq-eqb, ne_eqb, eqb-false, lt-ltb, ltb-true, false≢true, both_ways, cond_both}
+use Rattle.std.proofs.Common.{◌≡◌, ℕ, zero, suc, ◌<◌, ◌≤◌, Bool, true, false, ◌||◌, ◌⊎◌, List, [], ◌∷◌, length, take, eqb, refl, sym, ap, subst, ◌∙◌, ⊎_elim, inl, inr, arith, Option, Some, None}
+use Rattle.std.proofs.lemmas.Bool.{and_from, and_parts, or_cases, or_left, or_right, and_right, cases_lt, eqb-true, eq-eqb, ne_eqb, eqb-false, false≢true, both_ways, cond_both}
 use Rattle.std.proofs.lemmas.List.{take_all}
 use Rattle.std.proofs.lemmas.List.Sums.{prefix_len-le-length}
 use Rattle.std.specs.List.{list_all, list_any, prefix_len}
@@ -10,11 +10,11 @@ use Rattle.ir_lexer.specs.declared.token.Kind.TheVariants as kinds
 use Rattle.ir_lexer.specs.declared.class.Class.{Class}
 use Rattle.ir_lexer.specs.declared.class.Class.TheVariants as classes
 use Rattle.ir_lexer.specs.Signs.{begins_word, begins_name, is_name_byte, is_meta_byte, is_mark}
-use Rattle.ir_lexer.specs.Spelled.{headed, after, is_quoted, is_run, is_name, is_decimal, is_integer, has, is_label, is_word, is_one_mark, is_spelled}
+use Rattle.ir_lexer.specs.Spelled.{after, is_quoted, is_run, is_name, is_decimal, is_integer, has, is_label, is_word, is_one_mark, is_spelled}
 use Rattle.ir_lexer.specs.Front.{class_of, with_sign, behind, quoted_len, name_len, integer_len, c_string_len, is_labelled, sized, quoted, lettered, numbered, front_of, front}
 use Rattle.ir_lexer.proofs.Runs.{by_test, run_passes, run_most}
-use Rattle.ir_lexer.proofs.Lengths.{Measures, quoted_measures, quoted_only, with_sign_of, with_sign_some, c_string_measures, run_measures, hash_measures, begun, headed_first, headed_most, behind_measures}
-use Rattle.ir_lexer.proofs.Names.{name_measures, integer_measures, integer_first, integer_in_run, quoted_first, run_first, name_from_begin, name_from_digit, begin_from_word, digit_begins_no_word, colon_is_no_name, quote_is_no_name, has_tells, has_from, IsLabelOf, label_tells, label_from, run_to_colon}
+use Rattle.ir_lexer.proofs.Lengths.{Measures, quoted_measures, quoted_only, with_sign_of, with_sign_some, c_string_measures, run_measures, begun, headed_first, headed_most, behind_measures}
+use Rattle.ir_lexer.proofs.Names.{name_measures, integer_measures, integer_first, integer_in_run, quoted_first, run_first, name_from_begin, name_from_digit, begin_from_word, digit_begins_no_word, has_tells, IsLabelOf, label_tells, label_from, run_to_colon}
 
 -- what a class says of the first byte
 abbrev pub FirstIs : Class → ℕ → Type 0
@@ -137,14 +137,14 @@ found_quoted rest =
     by_test (eqb (quoted_len rest) 0)
     (λ none. rw none tt)
     (λ more.
-        let some : 0 < quoted_len rest = omega (arith, eqb-false _ _ more) in
-        rw more (cond_both (has rest (quoted_len rest) 58) _ _ P
-            (λ colon. record {
-              some = omega arith;
-              within = omega (arith, (has_tells rest (quoted_len rest) 58 colon).0);
-              spelled = label_from rest (quoted_len rest) colon (or_right _ _ (quoted_measures.found rest some));
-            })
-            (λ _. record { some = some; within = quoted_measures.within rest; spelled = quoted_measures.found rest some })))
+    let some : 0 < quoted_len rest = omega (arith, eqb-false _ _ more) in
+    rw more (cond_both (has rest (quoted_len rest) 58) _ _ P
+    (λ colon. record {
+      some = omega arith;
+      within = omega (arith, (has_tells rest (quoted_len rest) 58 colon).0);
+      spelled = label_from rest (quoted_len rest) colon (or_right _ _ (quoted_measures.found rest some));
+    })
+    (λ _. record { some = some; within = quoted_measures.within rest; spelled = quoted_measures.found rest some })))
 
 reach_string : (rest : List ℕ) (m : ℕ) → m ≤ length rest → is_quoted (take m rest) ≡ true → Reach (quoted rest) kinds.Str m
 unfolding quoted
@@ -181,10 +181,10 @@ found_lettered b bs begins =
     cond_both (is_labelled (b ∷ bs)) _ _ P
     (λ colon. found_label (b ∷ bs) colon word.0)
     (λ _. cond_both (eqb (c_string_len (b ∷ bs)) 0) _ _ P
-        (λ _. record { some = word.0; within = prefix_len-le-length is_name_byte (b ∷ bs); spelled = word.1 })
-        (λ more.
-            let some : 0 < c_string_len (b ∷ bs) = omega (arith, eqb-false _ _ more) in
-            record { some = some; within = c_string_measures.within (b ∷ bs); spelled = c_string_measures.found (b ∷ bs) some }))
+    (λ _. record { some = word.0; within = prefix_len-le-length is_name_byte (b ∷ bs); spelled = word.1 })
+    (λ more.
+    let some : 0 < c_string_len (b ∷ bs) = omega (arith, eqb-false _ _ more) in
+    record { some = some; within = c_string_measures.within (b ∷ bs); spelled = c_string_measures.found (b ∷ bs) some }))
 
 reach_label : (rest : List ℕ) (n : ℕ) → has rest n 58 ≡ true → is_run (take n rest) ≡ true → (n ≡ prefix_len is_name_byte rest) × (is_labelled rest ≡ true)
 unfolding is_labelled
@@ -210,8 +210,8 @@ unfolding c_string_len quoted_len
 c_string_shape [] some = absurd (omega arith)
 c_string_shape (x ∷ xs) some = by_test (eqb x 99)
     (λ c.
-        let inner : 0 < quoted_len xs = with_sign_some (quoted_len xs) (rw c at some) in
-        shape xs inner (eqb-true x 99 c) (rw (c, with_sign_of (quoted_len xs) inner) (omega arith)))
+    let inner : 0 < quoted_len xs = with_sign_some (quoted_len xs) (rw c at some) in
+    shape xs inner (eqb-true x 99 c) (rw (c, with_sign_of (quoted_len xs) inner) (omega arith)))
     (λ no. absurd (let h = rw no at some in omega arith))
   where
     shape : (zs : List ℕ) → 0 < quoted_len zs → x ≡ 99 → 2 ≤ c_string_len (x ∷ xs) → (ys : List ℕ) × (x ∷ zs ≡ 99 ∷ 34 ∷ ys) × (2 ≤ c_string_len (x ∷ xs))
@@ -240,10 +240,10 @@ reach_word rest m le passes =
     cond_both (is_labelled rest) _ _ P
     (λ _. inl (omega arith))
     (λ _. cond_both (eqb (c_string_len rest) 0) _ _ P
-        (λ _. same_or_less kinds.Word _ m most)
-        (λ more.
-            let some : 0 < c_string_len rest = omega (arith, eqb-false _ _ more) in
-            inl (omega (arith, (c_string_beats rest some).0))))
+    (λ _. same_or_less kinds.Word _ m most)
+    (λ more.
+    let some : 0 < c_string_len rest = omega (arith, eqb-false _ _ more) in
+    inl (omega (arith, (c_string_beats rest some).0))))
 
 reach_c_string : (rest : List ℕ) (m : ℕ) → m ≤ length rest → after 99 is_quoted (take m rest) ≡ true → Reach (lettered rest) kinds.CStr m
 unfolding lettered
@@ -330,9 +330,9 @@ unfolding is_name_byte begins_name
 name_class b name = by_test (begins_word b)
     (λ word. inl (class_letter b word))
     (λ none. inr (class_number b none (⊎_elim
-        (λ begins. ⊎_elim (λ word. absurd (both_ways _ none word)) (λ minus. or_right _ _ minus) (or_cases (begins_word b) (eqb b 45) begins))
-        (λ digit. or_left _ _ digit)
-        (or_cases (begins_word b || eqb b 45) (is_ascii_digit b) name))))
+    (λ begins. ⊎_elim (λ word. absurd (both_ways _ none word)) (λ minus. or_right _ _ minus) (or_cases (begins_word b) (eqb b 45) begins))
+    (λ digit. or_left _ _ digit)
+    (or_cases (begins_word b || eqb b 45) (is_ascii_digit b) name))))
 
 reach_at : (b : ℕ) (bs : List ℕ) (c : Class) (kind : Kind) (m : ℕ) → class_of b ≡ c → Reach (front_of c (b ∷ bs) bs) kind m → Reach (front (b ∷ bs)) kind m
 reach_at b bs c kind m e h = subst (λ d. Reach (front_of d (b ∷ bs) bs) kind m) (sym e) h
@@ -343,12 +343,12 @@ reach_any_label b bs m le passes =
     let n = parts.0 in
     let label : IsLabelOf (b ∷ bs) n = parts.2 in
     let at_n : Reach (front (b ∷ bs)) kinds.Label (suc n) = ⊎_elim
-        (λ run. ⊎_elim
-            (λ letter. reach_at b bs classes.Letter kinds.Label (suc n) letter (reach_lettered_label (b ∷ bs) n label.colon run))
-            (λ number. reach_at b bs classes.Number kinds.Label (suc n) number (reach_numbered_label (b ∷ bs) n label.colon run))
-            (name_class b (run_first b bs n run).1))
-        (λ quoted. reach_at b bs classes.Quote kinds.Label (suc n) (class_at b 34 classes.Quote (quoted_first b bs n quoted) class_signs.4) (reach_quoted_label (b ∷ bs) n (omega arith) label.colon quoted))
-        label.front in
+    (λ run. ⊎_elim
+    (λ letter. reach_at b bs classes.Letter kinds.Label (suc n) letter (reach_lettered_label (b ∷ bs) n label.colon run))
+    (λ number. reach_at b bs classes.Number kinds.Label (suc n) number (reach_numbered_label (b ∷ bs) n label.colon run))
+    (name_class b (run_first b bs n run).1))
+    (λ quoted. reach_at b bs classes.Quote kinds.Label (suc n) (class_at b 34 classes.Quote (quoted_first b bs n quoted) class_signs.4) (reach_quoted_label (b ∷ bs) n (omega arith) label.colon quoted))
+    label.front in
     subst (λ k. Reach (front (b ∷ bs)) kinds.Label k) (sym parts.1) at_n
 
 -- what is found
@@ -425,14 +425,14 @@ one_front None text kind other is a b = absurd a
 one_front (Some f) text kind other is a b = ⊎_elim
     (λ less. absurd (omega (arith, is.within)))
     (λ same. ⊎_elim
-        (λ less. absurd (omega (arith, is.within)))
-        (λ too. same.1 ∙ sym too.1)
-        b)
+    (λ less. absurd (omega (arith, is.within)))
+    (λ too. same.1 ∙ sym too.1)
+    b)
     a
 
 pub one_kind : (kind other : Kind) (text : List ℕ) → is_spelled kind text ≡ true → is_spelled other text ≡ true → kind ≡ other
 one_kind kind other text a b =
     let whole : take (length text) text ≡ text = take_all (length text) text (omega arith) in
     one_front (front text) text kind other (found text)
-        (reach text kind (length text) (omega arith) (ap (is_spelled kind) whole ∙ a))
-        (reach text other (length text) (omega arith) (ap (is_spelled other) whole ∙ b))
+    (reach text kind (length text) (omega arith) (ap (is_spelled kind) whole ∙ a))
+    (reach text other (length text) (omega arith) (ap (is_spelled other) whole ∙ b))

@@ -1,12 +1,12 @@
 -- How long a part of a token is, against the test that tells its spelling.
-use Rattle.std.proofs.Common.{◌≡◌, ℕ, zero, suc, ◌+◌, ◌-◌, ◌<◌, ◌≤◌, Bool, true, false, cond, not, ◌&&◌, ◌||◌, ◌⊎◌, List, [], ◌∷◌, length, take, drop, get_or, eqb, ltb, refl, sym, ap, subst, ◌∙◌, ⊎_elim, inl, inr, arith, take-take, length-take-le}
-use Rattle.std.proofs.lemmas.Bool.{and_from, and_parts, or_cases, or_left, or_right, cases_Bool, cases_lt, eqb-true, lt-ltb, ltb-true, ne_eqb, false≢true, both_ways}
-use Rattle.std.proofs.lemmas.List.Sums.{prefix_len-le-length, prefix_len_passes}
-use Rattle.std.specs.List.{list_all, prefix_len}
+use Rattle.std.proofs.Common.{◌≡◌, ℕ, zero, suc, ◌+◌, ◌<◌, ◌≤◌, Bool, true, false, List, [], ◌∷◌, length, take, eqb, ltb, refl, arith, length-take-le}
+use Rattle.std.proofs.lemmas.Bool.{and_from, and_parts, eqb-true, lt-ltb, ltb-true, ne_eqb, false≢true}
+use Rattle.std.proofs.lemmas.List.Sums.{prefix_len-le-length}
+use Rattle.std.specs.List.{prefix_len}
 use Rattle.std.specs.Char.{is_ascii_digit}
-use Rattle.ir_lexer.specs.Signs.{begins_word, begins_name, is_name_byte, is_no_quote}
-use Rattle.ir_lexer.specs.Spelled.{headed, after, closes, is_quoted, is_decimal, is_run, is_name, is_integer, has}
-use Rattle.ir_lexer.specs.Front.{with_sign, behind, closing_len, quoted_len, name_len, integer_len, c_string_len}
+use Rattle.ir_lexer.specs.Signs.{is_name_byte, is_no_quote}
+use Rattle.ir_lexer.specs.Spelled.{headed, after, closes, is_quoted, is_decimal, is_run}
+use Rattle.ir_lexer.specs.Front.{with_sign, behind, closing_len, quoted_len, c_string_len}
 use Rattle.ir_lexer.proofs.Runs.{by_test, run_passes, run_most}
 
 -- len says how long the longest front is that passes the test, and is 0 where none does
@@ -24,8 +24,8 @@ closes_front (x ∷ xs) lt =
     by_test (eqb x 34)
     (λ yes. rw yes refl)
     (λ no. let h = rw no at lt in
-        let e : 1 + prefix_len is_no_quote xs ≡ suc (prefix_len is_no_quote xs) = omega arith in
-        rw (no, e) (closes_front xs (omega arith)))
+    let e : 1 + prefix_len is_no_quote xs ≡ suc (prefix_len is_no_quote xs) = omega arith in
+    rw (no, e) (closes_front xs (omega arith)))
 
 pub closes_only : (xs : List ℕ) (m : ℕ) → m ≤ length xs → closes (take m xs) ≡ true → (m ≡ suc (prefix_len is_no_quote xs)) × (prefix_len is_no_quote xs < length xs)
 unfolding is_no_quote
@@ -34,26 +34,26 @@ closes_only [] (suc m) le passes = absurd (omega arith)
 closes_only (x ∷ xs) (suc m) le passes =
     by_test (eqb x 34)
     (λ yes. let h = rw yes at passes in
-        let none : length (take m xs) ≡ 0 = eqb-true (length (take m xs)) 0 h in
-        let taken : length (take m xs) ≡ m = length-take-le m xs (omega arith) in
-        rw yes (omega arith, omega arith))
+    let none : length (take m xs) ≡ 0 = eqb-true (length (take m xs)) 0 h in
+    let taken : length (take m xs) ≡ m = length-take-le m xs (omega arith) in
+    rw yes (omega arith, omega arith))
     (λ no. let h = rw no at passes in
-        let more = closes_only xs m (omega arith) h in
-        rw no (omega (arith, more.0), omega (arith, more.1)))
+    let more = closes_only xs m (omega arith) h in
+    rw no (omega (arith, more.0), omega (arith, more.1)))
 
 closing_measures : Measures closes closing_len
 unfolding closing_len
 closing_measures = record {
   within = λ xs. by_test (ltb (prefix_len is_no_quote xs) (length xs))
-    (λ yes. rw yes (omega (arith, ltb-true _ _ yes)))
-    (λ no. rw no (omega arith));
+      (λ yes. rw yes (omega (arith, ltb-true _ _ yes)))
+      (λ no. rw no (omega arith));
   found = λ xs some. by_test (ltb (prefix_len is_no_quote xs) (length xs))
-    (λ yes. rw yes (closes_front xs (ltb-true _ _ yes)))
-    (λ no. absurd (let h = rw no at some in omega arith));
+      (λ yes. rw yes (closes_front xs (ltb-true _ _ yes)))
+      (λ no. absurd (let h = rw no at some in omega arith));
   some = λ xs m le passes. omega (arith, (closes_only xs m le passes).0);
   most = λ xs m le passes. let only = closes_only xs m le passes in
-    let yes : ltb (prefix_len is_no_quote xs) (length xs) ≡ true = lt-ltb _ _ only.1 in
-    rw yes (omega (arith, only.0));
+      let yes : ltb (prefix_len is_no_quote xs) (length xs) ≡ true = lt-ltb _ _ only.1 in
+      rw yes (omega (arith, only.0));
 }
 
 -- one more for a sign in front
@@ -73,16 +73,19 @@ behind_measures sign test len measures = record { within = within; found = found
     within (x ∷ xs) = by_test (eqb x sign)
         (λ yes. rw yes (by_test (eqb (len xs) 0) (λ none. rw none (omega arith)) (λ more. rw more (omega (arith, measures.within xs)))))
         (λ no. rw no (omega arith))
+
     found : (xs : List ℕ) → 0 < behind sign len xs → after sign test (take (behind sign len xs) xs) ≡ true
     found [] some = absurd (omega arith)
     found (x ∷ xs) some = by_test (eqb x sign)
         (λ yes. let h = rw yes at some in
-            let n : 0 < len xs = with_sign_some (len xs) h in
-            rw (yes, with_sign_of (len xs) n) (and_from _ _ yes (measures.found xs n)))
+        let n : 0 < len xs = with_sign_some (len xs) h in
+        rw (yes, with_sign_of (len xs) n) (and_from _ _ yes (measures.found xs n)))
         (λ no. absurd (let h = rw no at some in omega arith))
+
     some : (xs : List ℕ) (m : ℕ) → m ≤ length xs → after sign test (take m xs) ≡ true → 0 < m
     some xs zero le passes = absurd (false≢true passes)
     some xs (suc m) le passes = omega arith
+
     most : (xs : List ℕ) (m : ℕ) → m ≤ length xs → after sign test (take m xs) ≡ true → m ≤ behind sign len xs
     most xs zero le passes = omega arith
     most [] (suc m) le passes = absurd (omega arith)
@@ -143,6 +146,7 @@ headed_measures p = record {
     found (x ∷ xs) some = by_test (p x)
         (λ yes. (begun p p x xs yes yes).1)
         (λ no. absurd (let h = rw no at some in omega arith))
+
     some : (xs : List ℕ) (m : ℕ) → m ≤ length xs → headed p p (take m xs) ≡ true → 0 < m
     some xs zero le passes = absurd (false≢true passes)
     some xs (suc m) le passes = omega arith

@@ -1,15 +1,15 @@
 -- Names behind a sign, integers and labels: how long they are, against their spelling.
-use Rattle.std.proofs.Common.{◌≡◌, ℕ, zero, suc, ◌+◌, ◌-◌, ◌<◌, ◌≤◌, Bool, true, false, cond, not, ◌&&◌, ◌||◌, ◌⊎◌, List, [], ◌∷◌, length, take, drop, get_or, eqb, ltb, leb, refl, sym, ap, subst, ◌∙◌, ⊎_elim, inl, inr, arith, take-take, length-take-le, get_or-take, get_or-drop, length-drop}
-use Rattle.std.proofs.lemmas.Bool.{and_from, and_parts, or_cases, or_left, or_right, or_from, cases_Bool, cases_lt, eqb-true, eq-eqb, lt-ltb, ltb-true, ltb-false, le-ltb, ne_eqb, false≢true, both_ways}
+use Rattle.std.proofs.Common.{◌≡◌, ℕ, zero, suc, ◌+◌, ◌-◌, ◌<◌, ◌≤◌, Bool, true, false, ◌&&◌, ◌||◌, ◌⊎◌, List, [], ◌∷◌, length, take, drop, get_or, eqb, ltb, refl, sym, ap, subst, ◌∙◌, ⊎_elim, inl, inr, arith, take-take, length-take-le, get_or-take, get_or-drop, length-drop}
+use Rattle.std.proofs.lemmas.Bool.{and_from, and_parts, or_cases, or_left, or_right, cases_lt, eqb-true, eq-eqb, lt-ltb, ltb-true, ne_eqb, false≢true, both_ways}
 use Rattle.std.proofs.lemmas.Bool.Decides.{nat_tests}
 use Rattle.std.proofs.lemmas.List.Sums.{prefix_len-le-length, prefix_len_passes}
-use Rattle.std.specs.List.{list_all, prefix_len}
-use Rattle.std.specs.Char.{is_ascii_digit, is_ascii_alphabetic}
-use Rattle.ir_lexer.specs.Signs.{begins_word, begins_name, is_name_byte, is_no_quote}
-use Rattle.ir_lexer.specs.Spelled.{headed, after, closes, is_quoted, is_decimal, is_run, is_name, is_integer, has, is_label}
-use Rattle.ir_lexer.specs.Front.{with_sign, behind, closing_len, quoted_len, name_len, integer_len, is_labelled}
-use Rattle.ir_lexer.proofs.Runs.{by_test, run_passes, run_most, run_rest}
-use Rattle.ir_lexer.proofs.Lengths.{Measures, quoted_measures, run_measures, decimal_measures, signed_integer_measures, begun, headed_first, headed_most, behind_measures}
+use Rattle.std.specs.List.{prefix_len}
+use Rattle.std.specs.Char.{is_ascii_digit}
+use Rattle.ir_lexer.specs.Signs.{begins_word, begins_name, is_name_byte}
+use Rattle.ir_lexer.specs.Spelled.{headed, after, is_quoted, is_decimal, is_run, is_name, is_integer, has, is_label}
+use Rattle.ir_lexer.specs.Front.{behind, quoted_len, name_len, integer_len, is_labelled}
+use Rattle.ir_lexer.proofs.Runs.{by_test, run_rest}
+use Rattle.ir_lexer.proofs.Lengths.{Measures, quoted_measures, run_measures, decimal_measures, signed_integer_measures, begun, headed_first, headed_most}
 
 -- bytes
 
@@ -65,34 +65,33 @@ name_decimal : (x : ℕ) (xs : List ℕ) → eqb x 34 ≡ false → begins_name 
 unfolding name_len
 name_decimal x xs other none = rw (other, none) refl
 
-
 name_within : (xs : List ℕ) → name_len xs ≤ length xs
 unfolding name_len
 name_within [] = omega arith
 name_within (x ∷ xs) = by_test (eqb x 34)
     (λ quote. let P : ℕ → Type 0 = λ n. n ≤ length (x ∷ xs) in subst P (sym (name_quoted x xs quote)) (quoted_measures.within (x ∷ xs)))
     (λ no. by_test (begins_name x)
-        (λ begins. let P : ℕ → Type 0 = λ n. n ≤ length (x ∷ xs) in subst P (sym (name_plain x xs begins)) (prefix_len-le-length is_name_byte (x ∷ xs)))
-        (λ none. let P : ℕ → Type 0 = λ n. n ≤ length (x ∷ xs) in subst P (sym (name_decimal x xs no none)) (prefix_len-le-length is_ascii_digit (x ∷ xs))))
+    (λ begins. let P : ℕ → Type 0 = λ n. n ≤ length (x ∷ xs) in subst P (sym (name_plain x xs begins)) (prefix_len-le-length is_name_byte (x ∷ xs)))
+    (λ none. let P : ℕ → Type 0 = λ n. n ≤ length (x ∷ xs) in subst P (sym (name_decimal x xs no none)) (prefix_len-le-length is_ascii_digit (x ∷ xs))))
 
 name_found : (xs : List ℕ) → 0 < name_len xs → is_name (take (name_len xs) xs) ≡ true
 unfolding is_name name_len
 name_found [] some = absurd (omega arith)
 name_found (x ∷ xs) some = by_test (eqb x 34)
     (λ quote.
-        let P : ℕ → Type 0 = λ n. is_name (take n (x ∷ xs)) ≡ true in
-        let e = name_quoted x xs quote in
-        let n : 0 < quoted_len (x ∷ xs) = omega (arith, e) in
-        subst P (sym e) (or_right _ _ (quoted_measures.found (x ∷ xs) n)))
+    let P : ℕ → Type 0 = λ n. is_name (take n (x ∷ xs)) ≡ true in
+    let e = name_quoted x xs quote in
+    let n : 0 < quoted_len (x ∷ xs) = omega (arith, e) in
+    subst P (sym e) (or_right _ _ (quoted_measures.found (x ∷ xs) n)))
     (λ no. by_test (begins_name x)
-        (λ begins.
-            let P : ℕ → Type 0 = λ n. is_name (take n (x ∷ xs)) ≡ true in
-            subst P (sym (name_plain x xs begins)) (or_left _ _ (or_left _ _ (begun begins_name is_name_byte x xs begins (name_from_begin x begins)).1)))
-        (λ none.
-            let P : ℕ → Type 0 = λ n. is_name (take n (x ∷ xs)) ≡ true in
-            let e = name_decimal x xs no none in
-            let n : 0 < prefix_len is_ascii_digit (x ∷ xs) = omega (arith, e) in
-            subst P (sym e) (or_left _ _ (or_right _ _ (decimal_measures.found (x ∷ xs) n)))))
+    (λ begins.
+    let P : ℕ → Type 0 = λ n. is_name (take n (x ∷ xs)) ≡ true in
+    subst P (sym (name_plain x xs begins)) (or_left _ _ (or_left _ _ (begun begins_name is_name_byte x xs begins (name_from_begin x begins)).1)))
+    (λ none.
+    let P : ℕ → Type 0 = λ n. is_name (take n (x ∷ xs)) ≡ true in
+    let e = name_decimal x xs no none in
+    let n : 0 < prefix_len is_ascii_digit (x ∷ xs) = omega (arith, e) in
+    subst P (sym e) (or_left _ _ (or_right _ _ (decimal_measures.found (x ∷ xs) n)))))
 
 -- a quoted string begins with a quote
 pub quoted_first : (x : ℕ) (xs : List ℕ) (m : ℕ) → is_quoted (take m (x ∷ xs)) ≡ true → eqb x 34 ≡ true
@@ -115,20 +114,22 @@ name_most : (xs : List ℕ) (m : ℕ) → m ≤ length xs → is_name (take m xs
 unfolding is_name is_decimal is_quoted
 name_most xs zero le passes = absurd (false≢true passes)
 name_most [] (suc m) le passes = absurd (omega arith)
-name_most (x ∷ xs) (suc m) le passes = (omega arith,
-    ⊎_elim
-    (λ unquoted. ⊎_elim
-        (λ plain.
-            let first = headed_first begins_name is_name_byte x xs (suc m) plain in
-            let bound : suc m ≤ prefix_len is_name_byte (x ∷ xs) = headed_most begins_name is_name_byte name_from_begin (x ∷ xs) (suc m) le plain in
-            omega (arith, name_plain x xs first.1, bound))
-        (λ decimal.
-            let first = decimal_first x xs (suc m) decimal in
-            let bound = decimal_measures.most (x ∷ xs) (suc m) le decimal in
-            omega (arith, name_decimal x xs (digit_is_no x 34 first.1 quote_is_no_digit) (digit_begins_no_name x first.1), bound))
-        (or_cases (headed begins_name is_name_byte (take (suc m) (x ∷ xs))) (is_decimal (take (suc m) (x ∷ xs))) unquoted))
-    (λ quoted. omega (arith, name_quoted x xs (quoted_first x xs (suc m) quoted), quoted_measures.most (x ∷ xs) (suc m) le quoted))
-    (or_cases (headed begins_name is_name_byte (take (suc m) (x ∷ xs)) || is_decimal (take (suc m) (x ∷ xs))) (is_quoted (take (suc m) (x ∷ xs))) passes))
+name_most (x ∷ xs) (suc m) le passes = (
+  omega arith,
+  ⊎_elim
+      (λ unquoted. ⊎_elim
+      (λ plain.
+      let first = headed_first begins_name is_name_byte x xs (suc m) plain in
+      let bound : suc m ≤ prefix_len is_name_byte (x ∷ xs) = headed_most begins_name is_name_byte name_from_begin (x ∷ xs) (suc m) le plain in
+      omega (arith, name_plain x xs first.1, bound))
+      (λ decimal.
+      let first = decimal_first x xs (suc m) decimal in
+      let bound = decimal_measures.most (x ∷ xs) (suc m) le decimal in
+      omega (arith, name_decimal x xs (digit_is_no x 34 first.1 quote_is_no_digit) (digit_begins_no_name x first.1), bound))
+      (or_cases (headed begins_name is_name_byte (take (suc m) (x ∷ xs))) (is_decimal (take (suc m) (x ∷ xs))) unquoted))
+      (λ quoted. omega (arith, name_quoted x xs (quoted_first x xs (suc m) quoted), quoted_measures.most (x ∷ xs) (suc m) le quoted))
+      (or_cases (headed begins_name is_name_byte (take (suc m) (x ∷ xs)) || is_decimal (take (suc m) (x ∷ xs))) (is_quoted (take (suc m) (x ∷ xs))) passes),
+)
 
 pub name_measures : Measures is_name name_len
 name_measures = record {
@@ -160,15 +161,15 @@ unfolding is_integer integer_len
 integer_found [] some = absurd (omega arith)
 integer_found (x ∷ xs) some = by_test (eqb x 45)
     (λ minus.
-        let P : ℕ → Type 0 = λ n. is_integer (take n (x ∷ xs)) ≡ true in
-        let e = integer_signed x xs minus in
-        let n : 0 < behind 45 (prefix_len is_ascii_digit) (x ∷ xs) = omega (arith, e) in
-        subst P (sym e) (or_right _ _ (signed_integer_measures.found (x ∷ xs) n)))
+    let P : ℕ → Type 0 = λ n. is_integer (take n (x ∷ xs)) ≡ true in
+    let e = integer_signed x xs minus in
+    let n : 0 < behind 45 (prefix_len is_ascii_digit) (x ∷ xs) = omega (arith, e) in
+    subst P (sym e) (or_right _ _ (signed_integer_measures.found (x ∷ xs) n)))
     (λ no.
-        let P : ℕ → Type 0 = λ n. is_integer (take n (x ∷ xs)) ≡ true in
-        let e = integer_plain x xs no in
-        let n : 0 < prefix_len is_ascii_digit (x ∷ xs) = omega (arith, e) in
-        subst P (sym e) (or_left _ _ (decimal_measures.found (x ∷ xs) n)))
+    let P : ℕ → Type 0 = λ n. is_integer (take n (x ∷ xs)) ≡ true in
+    let e = integer_plain x xs no in
+    let n : 0 < prefix_len is_ascii_digit (x ∷ xs) = omega (arith, e) in
+    subst P (sym e) (or_left _ _ (decimal_measures.found (x ∷ xs) n)))
 
 minus_is_no_digit : is_ascii_digit 45 ≡ false
 minus_is_no_digit = refl
@@ -186,11 +187,13 @@ integer_most : (xs : List ℕ) (m : ℕ) → m ≤ length xs → is_integer (tak
 unfolding is_integer is_decimal
 integer_most xs zero le passes = absurd (false≢true passes)
 integer_most [] (suc m) le passes = absurd (omega arith)
-integer_most (x ∷ xs) (suc m) le passes = (omega arith,
-    ⊎_elim
-    (λ decimal. omega (arith, integer_plain x xs (digit_is_no x 45 (decimal_first x xs (suc m) decimal).1 minus_is_no_digit), decimal_measures.most (x ∷ xs) (suc m) le decimal))
-    (λ signed. omega (arith, integer_signed x xs (and_parts (eqb x 45) _ signed).0, signed_integer_measures.most (x ∷ xs) (suc m) le signed))
-    (or_cases (is_decimal (take (suc m) (x ∷ xs))) (after 45 is_decimal (take (suc m) (x ∷ xs))) passes))
+integer_most (x ∷ xs) (suc m) le passes = (
+  omega arith,
+  ⊎_elim
+      (λ decimal. omega (arith, integer_plain x xs (digit_is_no x 45 (decimal_first x xs (suc m) decimal).1 minus_is_no_digit), decimal_measures.most (x ∷ xs) (suc m) le decimal))
+      (λ signed. omega (arith, integer_signed x xs (and_parts (eqb x 45) _ signed).0, signed_integer_measures.most (x ∷ xs) (suc m) le signed))
+      (or_cases (is_decimal (take (suc m) (x ∷ xs))) (after 45 is_decimal (take (suc m) (x ∷ xs))) passes),
+)
 
 pub integer_measures : Measures is_integer integer_len
 integer_measures = record {
@@ -216,9 +219,9 @@ unfolding integer_len
 integer_in_run [] = omega arith
 integer_in_run (x ∷ xs) = by_test (eqb x 45)
     (λ minus.
-        let h = run_wider is_ascii_digit is_name_byte name_from_digit xs in
-        let name : is_name_byte x ≡ true = subst (λ b. is_name_byte b ≡ true) (sym (eqb-true x 45 minus)) minus_is_name in
-        rw (minus, name) (by_test (eqb (prefix_len is_ascii_digit xs) 0) (λ none. rw none (omega arith)) (λ more. rw more (omega arith))))
+    let h = run_wider is_ascii_digit is_name_byte name_from_digit xs in
+    let name : is_name_byte x ≡ true = subst (λ b. is_name_byte b ≡ true) (sym (eqb-true x 45 minus)) minus_is_name in
+    rw (minus, name) (by_test (eqb (prefix_len is_ascii_digit xs) 0) (λ none. rw none (omega arith)) (λ more. rw more (omega arith))))
     (λ no. omega (arith, integer_plain x xs no, run_wider is_ascii_digit is_name_byte name_from_digit (x ∷ xs)))
 
 -- labels
@@ -245,11 +248,14 @@ label_tells xs (suc n) le passes =
     let h : P n = subst P len passes in
     let parts = and_parts (has (take (suc n) xs) n 58) _ h in
     let colon = has_tells (take (suc n) xs) n 58 parts.0 in
-    let same : take n (take (suc n) xs) ≡ take n xs = take-take n (suc n) xs (omega arith) in
-    (n, refl, record {
-      colon = has_from xs n 58 (omega arith) (sym (get_or-take (suc n) xs n 0 (omega arith)) ∙ colon.1);
-      front = or_cases (is_run (take n xs)) (is_quoted (take n xs)) (rw same at parts.1);
-    })
+    let same : take n (take (suc n) xs) ≡ take n xs = take-take n (suc n) xs (omega arith) in (
+      n,
+      refl,
+      record {
+        colon = has_from xs n 58 (omega arith) (sym (get_or-take (suc n) xs n 0 (omega arith)) ∙ colon.1);
+        front = or_cases (is_run (take n xs)) (is_quoted (take n xs)) (rw same at parts.1);
+      },
+    )
 
 pub label_from : (xs : List ℕ) (n : ℕ) → has xs n 58 ≡ true → (is_run (take n xs) || is_quoted (take n xs)) ≡ true → is_label (take (suc n) xs) ≡ true
 unfolding is_label
@@ -259,8 +265,8 @@ label_from xs n colon front =
     let P : ℕ → Type 0 = λ k. (has (take (suc n) xs) k 58 && (is_run (take k (take (suc n) xs)) || is_quoted (take k (take (suc n) xs)))) ≡ true in
     let same : take n (take (suc n) xs) ≡ take n xs = take-take n (suc n) xs (omega arith) in
     subst P len (and_from _ _
-        (has_from (take (suc n) xs) n 58 (omega (arith, length-take-le (suc n) xs (omega (arith, at.0)))) (get_or-take (suc n) xs n 0 (omega arith) ∙ at.1))
-        (rw same front))
+    (has_from (take (suc n) xs) n 58 (omega (arith, length-take-le (suc n) xs (omega (arith, at.0)))) (get_or-take (suc n) xs n 0 (omega arith) ∙ at.1))
+    (rw same front))
 
 -- a run with a colon behind it ends there
 pub run_to_colon : (xs : List ℕ) (n : ℕ) → has xs n 58 ≡ true → is_run (take n xs) ≡ true → n ≡ prefix_len is_name_byte xs

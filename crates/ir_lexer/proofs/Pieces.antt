@@ -1,17 +1,15 @@
 -- The piece at the front of some bytes is the only one.
-use Rattle.std.proofs.Common.{◌≡◌, ℕ, zero, suc, ◌+◌, ◌-◌, ◌<◌, ◌≤◌, Bool, true, false, cond, not, ◌&&◌, ◌||◌, ◌⊎◌, List, [], ◌∷◌, length, take, drop, get_or, eqb, ltb, leb, refl, sym, ap, subst, ◌∙◌, ⊎_elim, inl, inr, arith, Option, Some, None}
-use Rattle.std.proofs.lemmas.Bool.{and_from, and_parts, or_cases, cases_lt, eqb-true, eq-eqb, ne_eqb, eqb-false, false≢true, both_ways, cond_both, not-true, not-false, not_from_false, not_from_true, false_from_ne_true}
+use Rattle.std.proofs.Common.{◌≡◌, ℕ, zero, suc, ◌<◌, ◌≤◌, true, false, cond, ◌||◌, List, [], ◌∷◌, length, get_or, eqb, refl, sym, ap, subst, ◌∙◌, ⊎_elim, arith, Option, Some, None}
+use Rattle.std.proofs.lemmas.Bool.{and_from, and_parts, or_cases, cases_lt, eqb-true, eq-eqb, both_ways, cond_both, not-false, not_from_true, false_from_ne_true}
 use Rattle.std.proofs.lemmas.List.Sums.{prefix_len-le-length, prefix_len_passes, prefix_len_stops}
-use Rattle.std.specs.List.{list_all, prefix_len}
+use Rattle.std.specs.List.{prefix_len}
 use Rattle.ir_lexer.specs.declared.token.Kind.{Kind}
-use Rattle.ir_lexer.specs.declared.class.Class.{Class}
 use Rattle.ir_lexer.specs.declared.class.Class.TheVariants as classes
 use Rattle.ir_lexer.specs.Signs.{is_blank, begins_word, is_mark, is_no_line_feed}
-use Rattle.ir_lexer.specs.Spelled.{is_spelled}
 use Rattle.ir_lexer.specs.Tokens.{IsBlank, IsComment, IsLongest, NothingBegins, Piece, Blank, Comment, Lexeme, len_of, BeginsWith}
-use Rattle.ir_lexer.specs.Front.{class_of, front, front_of, gap_len}
-use Rattle.ir_lexer.proofs.Runs.{by_test, run_passes, run_most}
-use Rattle.ir_lexer.proofs.Fronts.{IsFound, Found, Reach, found, reach}
+use Rattle.ir_lexer.specs.Front.{class_of, front, front_of}
+use Rattle.ir_lexer.proofs.Runs.{run_passes, run_most}
+use Rattle.ir_lexer.proofs.Fronts.{Found, Reach, found, reach}
 
 -- the piece at the front
 abbrev pub lexeme : Option (Kind × ℕ) → Option Piece
@@ -34,9 +32,9 @@ blank_other : (b : ℕ) → is_blank b ≡ true → class_of b ≡ classes.Other
 unfolding is_blank class_of begins_word is_mark
 blank_other b h = ⊎_elim
     (λ h. ⊎_elim
-        (λ h. ⊎_elim (λ h. other_at b 32 h refl) (λ h. other_at b 9 h refl) (or_cases (eqb b 32) (eqb b 9) h))
-        (λ h. other_at b 13 h refl)
-        (or_cases (eqb b 32 || eqb b 9) (eqb b 13) h))
+    (λ h. ⊎_elim (λ h. other_at b 32 h refl) (λ h. other_at b 9 h refl) (or_cases (eqb b 32) (eqb b 9) h))
+    (λ h. other_at b 13 h refl)
+    (or_cases (eqb b 32 || eqb b 9) (eqb b 13) h))
     (λ h. other_at b 10 h refl)
     (or_cases (eqb b 32 || eqb b 9 || eqb b 13) (eqb b 10) h)
 
@@ -68,8 +66,8 @@ comment_front b bs semicolon = record {
   within = omega (arith, prefix_len-le-length is_no_line_feed bs);
   begins = eqb-true b 59 semicolon;
   one_line = and_from (is_no_line_feed b) _
-    (rw (eqb-true b 59 semicolon) refl)
-    (run_passes is_no_line_feed bs (prefix_len is_no_line_feed bs) (omega arith));
+      (rw (eqb-true b 59 semicolon) refl)
+      (run_passes is_no_line_feed bs (prefix_len is_no_line_feed bs) (omega arith));
   ends = λ lt. eqb-true _ 10 (not-false _ (prefix_len_stops is_no_line_feed bs 0 (omega arith)));
 }
 
@@ -78,14 +76,15 @@ unfolding is_no_line_feed
 comment_only b bs zero comment = absurd (omega (arith, comment.some))
 comment_only b bs (suc m) comment =
     let within : m ≤ length bs = omega (arith, comment.within) in
-    let most : m ≤ prefix_len is_no_line_feed bs = run_most is_no_line_feed bs m within (and_parts (is_no_line_feed b) _ comment.one_line).1 in
-    (eq-eqb b 59 comment.begins,
-    ⊎_elim
-    (λ lt.
-        let ends : get_or bs m 0 ≡ 10 = comment.ends (omega (arith, prefix_len-le-length is_no_line_feed bs)) in
-        absurd (both_ways _ (not_from_true _ (eq-eqb _ 10 ends)) (prefix_len_passes is_no_line_feed bs m 0 lt)))
-    (λ ge. omega arith)
-    (cases_lt m (prefix_len is_no_line_feed bs)))
+    let most : m ≤ prefix_len is_no_line_feed bs = run_most is_no_line_feed bs m within (and_parts (is_no_line_feed b) _ comment.one_line).1 in (
+      eq-eqb b 59 comment.begins,
+      ⊎_elim
+          (λ lt.
+          let ends : get_or bs m 0 ≡ 10 = comment.ends (omega (arith, prefix_len-le-length is_no_line_feed bs)) in
+          absurd (both_ways _ (not_from_true _ (eq-eqb _ 10 ends)) (prefix_len_passes is_no_line_feed bs m 0 lt)))
+          (λ ge. omega arith)
+          (cases_lt m (prefix_len is_no_line_feed bs)),
+    )
 
 longest_front : (rest : List ℕ) (o : Option (Kind × ℕ)) → front rest ≡ o → Found rest o → (IsBlank rest → ⊥) → ((len : ℕ) → IsComment rest len → ⊥) → Next rest (lexeme o)
 longest_front rest None e is no_blank no_comment = record {
@@ -116,10 +115,10 @@ next_is (b ∷ bs) =
     cond_both (is_blank b) _ _ P
     (λ blank. record { some = omega arith; within = omega arith; begins = record { within = omega arith; blank = blank } })
     (λ no_blank. cond_both (eqb b 59) _ _ P
-        (λ semicolon. record { some = omega arith; within = omega (arith, prefix_len-le-length is_no_line_feed bs); begins = comment_front b bs semicolon })
-        (λ no_semicolon. longest_front (b ∷ bs) (front (b ∷ bs)) refl (found (b ∷ bs))
-            (λ blank. both_ways _ no_blank blank.blank)
-            (λ len comment. both_ways _ no_semicolon (comment_only b bs len comment).0)))
+    (λ semicolon. record { some = omega arith; within = omega (arith, prefix_len-le-length is_no_line_feed bs); begins = comment_front b bs semicolon })
+    (λ no_semicolon. longest_front (b ∷ bs) (front (b ∷ bs)) refl (found (b ∷ bs))
+    (λ blank. both_ways _ no_blank blank.blank)
+    (λ len comment. both_ways _ no_semicolon (comment_only b bs len comment).0)))
 
 -- whatever begins here is what next gives
 

@@ -1,19 +1,18 @@
 -- What one turn of the lexer's loop keeps.
-use Rattle.std.proofs.Common.{◌≡◌, ℕ, zero, suc, ◌+◌, ◌-◌, ◌<◌, ◌≤◌, Bool, true, false, cond, ◌⊎◌, List, [], ◌∷◌, ◌++◌, length, take, drop, eqb, refl, sym, ap, subst, ◌∙◌, ⊎_elim, inl, inr, arith, Option, Some, None, length-drop, append-nil, drop-drop}
-use Rattle.std.proofs.lemmas.Bool.{cases_lt, false_from_ne_true, or_left, both_ways}
+use Rattle.std.proofs.Common.{◌≡◌, ℕ, suc, ◌+◌, ◌<◌, ◌≤◌, false, List, [], ◌∷◌, ◌++◌, length, drop, eqb, refl, sym, ap, subst, ◌∙◌, ⊎_elim, arith, Option, Some, None, length-drop, append-nil, drop-drop}
+use Rattle.std.proofs.lemmas.Bool.{false_from_ne_true, or_left}
 use Rattle.std.specs.List.{prefix_len}
 use Rattle.ir_lexer.specs.declared.token.Kind.{Kind}
 use Rattle.ir_lexer.specs.declared.token.Kind.TheVariants as kinds
 use Rattle.ir_lexer.specs.declared.token.Token.{Token}
 use Rattle.ir_lexer.specs.Signs.{is_blank, is_name_byte, is_no_line_feed}
-use Rattle.ir_lexer.specs.Spelled.{has}
-use Rattle.ir_lexer.specs.Tokens.{NothingBegins, Piece, Blank, Comment, Lexeme, len_of, BeginsWith, tokens_of, Tokens, IsBadByte}
-use Rattle.ir_lexer.specs.Front.{front, gap_len, is_labelled, integer_len}
+use Rattle.ir_lexer.specs.Tokens.{NothingBegins, Piece, Blank, Comment, Lexeme, len_of, BeginsWith, tokens_of, IsBadByte}
+use Rattle.ir_lexer.specs.Front.{front, gap_len, is_labelled}
 use Rattle.ir_lexer.proofs.Runs.{by_test}
-use Rattle.ir_lexer.proofs.Lengths.{Measures, run_measures}
+use Rattle.ir_lexer.proofs.Lengths.{run_measures}
 use Rattle.ir_lexer.proofs.Names.{integer_measures, integer_in_run, labelled_inside, label_from, has_tells}
 use Rattle.ir_lexer.proofs.Fronts.{IsFound, Found, Reach, found, reach}
-use Rattle.ir_lexer.proofs.Pieces.{lexeme, next, Next, IsNext, next_is}
+use Rattle.ir_lexer.proofs.Pieces.{lexeme, next, Next, next_is}
 use Rattle.ir_lexer.proofs.Tilings.{LexedTo, lexed_more, lexed_bad}
 
 -- a blank or a comment, which gives no token
@@ -29,13 +28,13 @@ gap_next [] some = absurd (omega arith)
 gap_next (b ∷ bs) some = by_test (is_blank b)
     (λ blank. record { piece = Blank; is = rw blank refl; length = rw blank refl; no_token = λ at. refl })
     (λ none. by_test (eqb b 59)
-        (λ semicolon. record {
-          piece = Comment (suc (prefix_len is_no_line_feed bs));
-          is = rw (none, semicolon) refl;
-          length = rw (none, semicolon) refl;
-          no_token = λ at. refl;
-        })
-        (λ other. absurd (let h = rw (none, other) at some in omega arith)))
+    (λ semicolon. record {
+      piece = Comment (suc (prefix_len is_no_line_feed bs));
+      is = rw (none, semicolon) refl;
+      length = rw (none, semicolon) refl;
+      no_token = λ at. refl;
+    })
+    (λ other. absurd (let h = rw (none, other) at some in omega arith)))
 
 no_gap : (rest : List ℕ) → gap_len rest ≡ 0 → next rest ≡ lexeme (front rest)
 unfolding gap_len
@@ -43,8 +42,8 @@ no_gap [] none = refl
 no_gap (b ∷ bs) none = by_test (is_blank b)
     (λ blank. absurd (let h = rw blank at none in omega arith))
     (λ no_blank. by_test (eqb b 59)
-        (λ semicolon. absurd (let h = rw (no_blank, semicolon) at none in omega arith))
-        (λ no_semicolon. rw (no_blank, no_semicolon) refl))
+    (λ semicolon. absurd (let h = rw (no_blank, semicolon) at none in omega arith))
+    (λ no_semicolon. rw (no_blank, no_semicolon) refl))
 
 -- The code's rest is the bytes from the place on.
 

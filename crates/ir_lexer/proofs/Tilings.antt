@@ -1,7 +1,6 @@
 -- A text is tiled in one way, up to its end or up to one bad byte.
-use Rattle.std.proofs.Common.{◌≡◌, ℕ, zero, suc, ◌+◌, ◌-◌, ◌<◌, ◌≤◌, Bool, true, false, ◌⊎◌, List, [], ◌∷◌, ◌++◌, length, take, drop, refl, sym, ap, subst, ◌∙◌, ⊎_elim, inl, inr, arith, Option, Some, None, Result, Ok, Err, IfOk, IfErr, length-drop}
+use Rattle.std.proofs.Common.{◌≡◌, ℕ, zero, suc, ◌+◌, ◌-◌, ◌<◌, ◌≤◌, true, ◌⊎◌, List, [], ◌∷◌, ◌++◌, length, take, drop, refl, sym, ap, subst, ◌∙◌, ⊎_elim, inl, inr, arith, Option, Some, None, Result, Ok, Err, IfOk, IfErr, length-drop}
 use Rattle.std.proofs.lemmas.Bool.{cases_lt}
-use Rattle.std.proofs.lemmas.List.{drop_all}
 use Rattle.std.proofs.lemmas.List.Elements.{All-from_recursion}
 use Rattle.std.specs.List.{All, AllByRecursion}
 use Rattle.ir_lexer.specs.declared.token.Kind.{Kind}
@@ -10,7 +9,7 @@ use Rattle.ir_lexer.specs.declared.token.LexFault.{LexFault}
 use Rattle.ir_lexer.specs.declared.token.LexFault.TheVariants.{BadByte, OutOfMemory}
 use Rattle.ir_lexer.specs.Spelled.{is_spelled}
 use Rattle.ir_lexer.specs.Tokens.{IsLongest, NothingBegins, Piece, Blank, Comment, Lexeme, len_of, BeginsWith, Tiles, tokens_of, Tokens, IsBadByte, IsCause, Answers, InOrder, IsTokenIn}
-use Rattle.ir_lexer.proofs.Pieces.{next, Next, IsNext, next_is, next_only, nothing_next, one_piece, piece_bounds}
+use Rattle.ir_lexer.proofs.Pieces.{next, Next, IsNext, next_is, nothing_next, one_piece, piece_bounds}
 
 -- the end of a tiling
 
@@ -105,7 +104,7 @@ lexed_on : (fuel : ℕ) (bytes : List ℕ) (ts : List Token) (at : ℕ) → leng
 lexed_on zero bytes ts at le lexed = inl (ts, lexed_all bytes ts at lexed (omega arith))
 lexed_on (suc fuel) bytes ts at le lexed = ⊎_elim
     (λ lt. lexed_step bytes ts at (next (drop at bytes)) lexed lt (next_is (drop at bytes))
-        (λ p is. lexed_on fuel bytes (ts ++ tokens_of at (p ∷ [])) (at + len_of p) (omega (arith, is.some)) (lexed_more bytes ts at p lexed is.begins)))
+    (λ p is. lexed_on fuel bytes (ts ++ tokens_of at (p ∷ [])) (at + len_of p) (omega (arith, is.some)) (lexed_more bytes ts at p lexed is.begins)))
     (λ ge. inl (ts, lexed_all bytes ts at lexed ge))
     (cases_lt at (length bytes))
 

@@ -1,5 +1,5 @@
 -- How long the longest token at the front of some bytes is, and of which kind: what the code computes.
-use Rattle.std.specs.Prelude.{ℕ, ◌+◌, suc, Bool, true, false, ◌||◌, ◌==◌, nat_lt, List, [], ◌∷◌, length, slice_index, if◌then◌else◌, Option, Some, None}
+use Rattle.std.specs.Prelude.{ℕ, suc, Bool, ◌||◌, ◌==◌, nat_lt, List, [], ◌∷◌, length, if◌then◌else◌, Option, Some, None}
 use Rattle.std.specs.List.{prefix_len}
 use Rattle.std.specs.Char.{is_ascii_digit}
 use Rattle.ir_lexer.specs.declared.token.Kind.{Kind}

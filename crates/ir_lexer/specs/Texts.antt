@@ -1,5 +1,5 @@
 -- What the text of a token stands for: a name without its sign and quotes, a string without its quotes, escapes as bytes.
-use Rattle.std.specs.Prelude.{◌≡◌, ℕ, ◌+◌, ◌-◌, ◌*◌, Bool, true, false, ◌&&◌, ◌==◌, List, [], ◌∷◌, length, take, drop, if◌then◌else◌}
+use Rattle.std.specs.Prelude.{ℕ, ◌+◌, ◌-◌, ◌*◌, Bool, true, false, ◌&&◌, ◌==◌, List, [], ◌∷◌, length, take, drop, if◌then◌else◌}
 use Rattle.std.specs.Char.{is_ascii_hexdigit, digit_value}
 use Rattle.ir_lexer.specs.declared.token.Kind.{Kind}
 use Rattle.ir_lexer.specs.declared.token.Kind.TheVariants.{AtName, LocalName, Hash, Meta, Str, CStr, Label, Word, Int, Mark}
@@ -18,15 +18,19 @@ unfoldable pub unescaped : List ℕ → List ℕ
 unescaped [] = []
 unescaped (b ∷ []) = b ∷ []
 unescaped (b ∷ c ∷ []) = elim (b == 92) [
-    false ↦ b ∷ unescaped (c ∷ [])
-  | true ↦ elim (c == 92) [ true ↦ 92 ∷ [] | false ↦ 92 ∷ unescaped (c ∷ []) ] ]
+  | false ↦ b ∷ unescaped (c ∷ [])
+  | true ↦ elim (c == 92) [ true ↦ 92 ∷ [] | false ↦ 92 ∷ unescaped (c ∷ []) ]
+]
 unescaped (b ∷ c ∷ d ∷ bs) = elim (b == 92) [
-    false ↦ b ∷ unescaped (c ∷ d ∷ bs)
+  | false ↦ b ∷ unescaped (c ∷ d ∷ bs)
   | true ↦ elim (c == 92) [
-      true ↦ 92 ∷ unescaped (d ∷ bs)
+    | true ↦ 92 ∷ unescaped (d ∷ bs)
     | false ↦ elim (is_hex_pair c d) [
-        true ↦ hex_byte c d ∷ unescaped bs
-      | false ↦ 92 ∷ unescaped (c ∷ d ∷ bs) ] ] ]
+      | true ↦ hex_byte c d ∷ unescaped bs
+      | false ↦ 92 ∷ unescaped (c ∷ d ∷ bs)
+    ]
+  ]
+]
 
 -- what stands between the quotes of a string
 abbrev pub inside : List ℕ → List ℕ

@@ -8,24 +8,20 @@ ghost use Rattle.ir_lexer.specs.Tokens.{Tokens, IsBadByte};
 /// A text has one list of tokens at most.
 pub fn tokens_are_one()
     ensures { (bytes : List ℕ) (ts us : List Token) → Tokens bytes ts → Tokens bytes us → ts ≡ us }
-{
-}
+{}
 
 /// A text has one bad byte at most.
 pub fn bad_byte_is_one()
     ensures { (bytes : List ℕ) (at other : ℕ) → IsBadByte bytes at → IsBadByte bytes other → at ≡ other }
-{
-}
+{}
 
 /// A text has tokens or a bad byte, and never both.
 pub fn tokens_or_bad_byte()
     ensures one { (bytes : List ℕ) → ((ts : List Token) × Tokens bytes ts) ⊎ ((at : ℕ) × IsBadByte bytes at) }
     ensures never_both { (bytes : List ℕ) (ts : List Token) (at : ℕ) → Tokens bytes ts → IsBadByte bytes at → ⊥ }
-{
-}
+{}
 
 /// No bytes are tokens of two kinds.
 pub fn kinds_are_apart()
     ensures { (kind other : Kind) (text : List ℕ) → IsTrue (is_spelled kind text) → IsTrue (is_spelled other text) → kind ≡ other }
-{
-}
+{}

@@ -5,9 +5,9 @@ mod class;
 mod front;
 mod laws;
 mod lexing;
-mod text;
 #[cfg(test)]
 mod tests;
+mod text;
 mod token;
 
 pub use laws::{bad_byte_is_one, kinds_are_apart, tokens_are_one, tokens_or_bad_byte};

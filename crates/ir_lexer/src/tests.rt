@@ -71,13 +71,22 @@ fn tokens_of_texts(rt: HostRuntime) -> Result<(), Fail> {
         (b"!\"ab\"", "Meta 0..1 Str 1..5 "),
         (b"#0(", "Hash 0..2 Mark 2..3 "),
         (b"#", "bad 0"),
-        (b"@0 @-a$._9 @\"0\"", "AtName 0..2 AtName 3..10 AtName 11..15 "),
+        (
+            b"@0 @-a$._9 @\"0\"",
+            "AtName 0..2 AtName 3..10 AtName 11..15 ",
+        ),
         (b"@", "bad 0"),
         (b"%:", "bad 0"),
         (b"%\"ab", "bad 0"),
         (b"%x:", "LocalName 0..2 Mark 2..3 "),
-        (b"=,*()[]{}", "Mark 0..1 Mark 1..2 Mark 2..3 Mark 3..4 Mark 4..5 Mark 5..6 Mark 6..7 Mark 7..8 Mark 8..9 "),
-        (b"<>|+:^", "Mark 0..1 Mark 1..2 Mark 2..3 Mark 3..4 Mark 4..5 Mark 5..6 "),
+        (
+            b"=,*()[]{}",
+            "Mark 0..1 Mark 1..2 Mark 2..3 Mark 3..4 Mark 4..5 Mark 5..6 Mark 6..7 Mark 7..8 Mark 8..9 ",
+        ),
+        (
+            b"<>|+:^",
+            "Mark 0..1 Mark 1..2 Mark 2..3 Mark 3..4 Mark 4..5 Mark 5..6 ",
+        ),
     ];
     for (text, wanted) in rows {
         let line = shown(rt.alloc(), text)?;

@@ -93,7 +93,9 @@ fn decode_text(alloc: Global, kind: Kind, text: &[u8]) -> Result<Bytes, OutOfMem
         Kind::Label => name_bytes(alloc, before_colon(text)),
         Kind::Str => string_bytes(alloc, text),
         Kind::CStr => string_bytes(alloc, behind_sign(text)),
-        Kind::Hash | Kind::Meta | Kind::Word | Kind::Int | Kind::Mark => Bytes::from_slice(alloc, text),
+        Kind::Hash | Kind::Meta | Kind::Word | Kind::Int | Kind::Mark => Bytes::from_slice(
+            alloc, text,
+        ),
     }
 }
 

@@ -1,7 +1,6 @@
-use Rattle.std.proofs.Common.{◌≡◌, ◌+◌, ◌<◌, ◌≤◌, true, false, drop, length, refl, sym, ap, ◌∙◌, arith, subst, rules}
+use Rattle.std.proofs.Common.{◌+◌, sym, arith, subst}
 use Rattle.std.proofs.lemmas.Bool.{false≢true, both_ways}
 use Rattle.std.proofs.lemmas.List.{take_rest}
-use Rattle.ir_lexer.specs.Front.{gap_len, front, is_labelled}
 use Rattle.ir_lexer.proofs.Tilings.{LexedTo}
 use Rattle.ir_lexer.proofs.Steps.{gap_more, token_more, bad_here, front_bounds, inside_after}
 use Rattle.ir_lexer.proofs.lexing.read_tokens.Goals as goal
@@ -26,10 +25,11 @@ loop-at-smaller c =
 pub loop-at-preserved : goal.loop-at-preserved
 loop-at-preserved c = record {
   lexed = subst (λ ts. LexedTo c.args.bytes.now ts (c.loop-at.at + c.in-Some.len)) (sym c.in-Ok.ensures.ok)
-    (token_more c.args.bytes.now c.loop-at.tokens c.loop-at.at _ _ c.in-Some.kind c.in-Some.len (take_rest c.args.bytes.now c.loop-at.at) c.loop-at.invariant.lexed c.gap_len-gap.ensures.exact c.if-gap-gt0.false c.in-Some.ensures.exact);
+      (token_more c.args.bytes.now c.loop-at.tokens c.loop-at.at _ _ c.in-Some.kind c.in-Some.len (take_rest c.args.bytes.now c.loop-at.at) c.loop-at.invariant.lexed c.gap_len-gap.ensures.exact c.if-gap-gt0.false c.in-Some.ensures.exact);
   plain = λ inside. elim c.match-matches.branch [
-      in-Int w ↦ inside_after c.args.bytes.now c.loop-at.at _ c.in-Some.kind c.in-Some.len (take_rest c.args.bytes.now c.loop-at.at) c.in-Some.ensures.exact w.in-Int.is
-    | in_default w ↦ absurd (both_ways _ w.matches-is inside) ];
+    | in-Int w ↦ inside_after c.args.bytes.now c.loop-at.at _ c.in-Some.kind c.in-Some.len (take_rest c.args.bytes.now c.loop-at.at) c.in-Some.ensures.exact w.in-Int.is
+    | in_default w ↦ absurd (both_ways _ w.matches-is inside)
+  ];
 }
 
 pub returns-in-None-clause-err : goal.returns-in-None-clause-err

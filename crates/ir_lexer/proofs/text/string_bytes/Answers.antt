@@ -1,5 +1,5 @@
-use Rattle.std.proofs.Common.{◌≡◌, ◌-◌, [], length, take, drop, refl, sym, ap, ◌∙◌, arith}
-use Rattle.ir_lexer.specs.Texts.{unescaped, inside}
+use Rattle.std.proofs.Common.{◌≡◌, ◌-◌, length, take, drop, sym, ap, ◌∙◌, arith}
+use Rattle.ir_lexer.specs.Texts.{unescaped}
 use Rattle.ir_lexer.proofs.text.string_bytes.Goals as goal
 
 -- less than two bytes have nothing between their quotes
