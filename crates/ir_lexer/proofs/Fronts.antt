@@ -42,34 +42,34 @@ class_tells b =
     cond_both (is_mark b) _ _ P (λ yes. yes) (λ _. tt))))))))
 
 -- the class of a first byte
-class_at : (b sign : ℕ) (c : Class) → eqb b sign ≡ true → class_of sign ≡ c → class_of b ≡ c
+pub class_at : (b sign : ℕ) (c : Class) → eqb b sign ≡ true → class_of sign ≡ c → class_of b ≡ c
 class_at b sign c h e = ap class_of (eqb-true b sign h) ∙ e
 
-class_letter : (b : ℕ) → begins_word b ≡ true → class_of b ≡ classes.Letter
+pub class_letter : (b : ℕ) → begins_word b ≡ true → class_of b ≡ classes.Letter
 unfolding class_of
 class_letter b h = rw h refl
 
-class_number : (b : ℕ) → begins_word b ≡ false → (is_ascii_digit b || eqb b 45) ≡ true → class_of b ≡ classes.Number
+pub class_number : (b : ℕ) → begins_word b ≡ false → (is_ascii_digit b || eqb b 45) ≡ true → class_of b ≡ classes.Number
 unfolding class_of
 class_number b other h = rw (other, h) refl
 
-class_signs : (class_of 64 ≡ classes.At) × (class_of 37 ≡ classes.Percent) × (class_of 35 ≡ classes.Hash) × (class_of 33 ≡ classes.Bang) × (class_of 34 ≡ classes.Quote) × (class_of 45 ≡ classes.Number) × (begins_word 99 ≡ true)
+pub class_signs : (class_of 64 ≡ classes.At) × (class_of 37 ≡ classes.Percent) × (class_of 35 ≡ classes.Hash) × (class_of 33 ≡ classes.Bang) × (class_of 34 ≡ classes.Quote) × (class_of 45 ≡ classes.Number) × (begins_word 99 ≡ true)
 unfolding class_of begins_word is_mark
 class_signs = (refl, refl, refl, refl, refl, refl, refl)
 
 -- a fact at each number of a list
-abbrev AllOf : (ℕ → Type 0) → List ℕ → Type 0
+abbrev pub AllOf : (ℕ → Type 0) → List ℕ → Type 0
 AllOf P [] = Unit {0}
 AllOf P (x ∷ xs) = P x × AllOf P xs
 
-any_tells : (P : ℕ → Type 0) (b : ℕ) (xs : List ℕ) → list_any (λ x. eqb b x) xs ≡ true → AllOf P xs → P b
+pub any_tells : (P : ℕ → Type 0) (b : ℕ) (xs : List ℕ) → list_any (λ x. eqb b x) xs ≡ true → AllOf P xs → P b
 any_tells P b [] h all = absurd (false≢true h)
 any_tells P b (x ∷ xs) h all = ⊎_elim
     (λ here. subst P (sym (eqb-true b x here)) all.0)
     (λ there. any_tells P b xs there all.1)
     (or_cases (eqb b x) _ h)
 
-class_mark : (b : ℕ) → is_mark b ≡ true → class_of b ≡ classes.Mark
+pub class_mark : (b : ℕ) → is_mark b ≡ true → class_of b ≡ classes.Mark
 unfolding class_of begins_word is_mark
 class_mark b h = any_tells (λ x. class_of x ≡ classes.Mark) b (61 ∷ 44 ∷ 42 ∷ 40 ∷ 41 ∷ 91 ∷ 93 ∷ 123 ∷ 125 ∷ 60 ∷ 62 ∷ 124 ∷ 43 ∷ 58 ∷ 94 ∷ []) h (refl, (refl, (refl, (refl, (refl, (refl, (refl, (refl, (refl, (refl, (refl, (refl, (refl, (refl, (refl, tt)))))))))))))))
 
@@ -88,10 +88,10 @@ abbrev pub Reach : Option (Kind × ℕ) → Kind → ℕ → Type 0
 Reach None kind len = ⊥
 Reach (Some f) kind len = (len < f.1) ⊎ ((len ≡ f.1) × (kind ≡ f.0))
 
-no_zero : (n : ℕ) → 0 < n → eqb n 0 ≡ false
+pub no_zero : (n : ℕ) → 0 < n → eqb n 0 ≡ false
 no_zero n some = ne_eqb n 0 (λ e. omega arith)
 
-sized_of : (kind : Kind) (len : ℕ) → 0 < len → sized kind len ≡ Some (kind, len)
+pub sized_of : (kind : Kind) (len : ℕ) → 0 < len → sized kind len ≡ Some (kind, len)
 sized_of kind len some = let e : eqb len 0 ≡ false = no_zero len some in rw e refl
 
 found_sized : (rest : List ℕ) (kind : Kind) (len : ℕ) → (0 < len → IsFound rest kind len) → Found rest (sized kind len)
@@ -186,7 +186,7 @@ found_lettered b bs begins =
     let some : 0 < c_string_len (b ∷ bs) = omega (arith, eqb-false _ _ more) in
     record { some = some; within = c_string_measures.within (b ∷ bs); spelled = c_string_measures.found (b ∷ bs) some }))
 
-reach_label : (rest : List ℕ) (n : ℕ) → has rest n 58 ≡ true → is_run (take n rest) ≡ true → (n ≡ prefix_len is_name_byte rest) × (is_labelled rest ≡ true)
+pub reach_label : (rest : List ℕ) (n : ℕ) → has rest n 58 ≡ true → is_run (take n rest) ≡ true → (n ≡ prefix_len is_name_byte rest) × (is_labelled rest ≡ true)
 unfolding is_labelled
 reach_label rest n colon run =
     let e = run_to_colon rest n colon run in
@@ -205,7 +205,7 @@ reach_numbered_label rest n colon run =
     rw label.1 (inr (ap (λ k. suc k) label.0, refl))
 
 -- a string with c before it begins so
-c_string_shape : (xs : List ℕ) → 0 < c_string_len xs → (ys : List ℕ) × (xs ≡ 99 ∷ 34 ∷ ys) × (2 ≤ c_string_len xs)
+pub c_string_shape : (xs : List ℕ) → 0 < c_string_len xs → (ys : List ℕ) × (xs ≡ 99 ∷ 34 ∷ ys) × (2 ≤ c_string_len xs)
 unfolding c_string_len quoted_len
 c_string_shape [] some = absurd (omega arith)
 c_string_shape (x ∷ xs) some = by_test (eqb x 99)
@@ -220,12 +220,12 @@ c_string_shape (x ∷ xs) some = by_test (eqb x 99)
         (λ quote. (zs, (let q = eqb-true z 34 quote in cc), long))
         (λ no. absurd (let h = rw no at inner in omega arith))
 
-c_string_run : (ys : List ℕ) → (prefix_len is_name_byte (99 ∷ 34 ∷ ys) ≡ 1) × (is_labelled (99 ∷ 34 ∷ ys) ≡ false)
+pub c_string_run : (ys : List ℕ) → (prefix_len is_name_byte (99 ∷ 34 ∷ ys) ≡ 1) × (is_labelled (99 ∷ 34 ∷ ys) ≡ false)
 unfolding is_labelled has is_name_byte begins_name begins_word
 c_string_run ys = (refl, and_right _ _ refl)
 
 -- so it is longer than the word c, and no label
-c_string_beats : (xs : List ℕ) → 0 < c_string_len xs → (prefix_len is_name_byte xs < c_string_len xs) × (is_labelled xs ≡ false)
+pub c_string_beats : (xs : List ℕ) → 0 < c_string_len xs → (prefix_len is_name_byte xs < c_string_len xs) × (is_labelled xs ≡ false)
 c_string_beats xs some =
     let shape = c_string_shape xs some in
     let run = c_string_run shape.0 in
@@ -297,7 +297,7 @@ unfolding is_one_mark
 one_mark b bs mark = and_from (is_mark b) _ mark refl
 
 -- a mark is one byte
-mark_tells : (b : ℕ) (bs : List ℕ) (m : ℕ) → m ≤ length (b ∷ bs) → is_one_mark (take m (b ∷ bs)) ≡ true → (is_mark b ≡ true) × (m ≡ 1)
+pub mark_tells : (b : ℕ) (bs : List ℕ) (m : ℕ) → m ≤ length (b ∷ bs) → is_one_mark (take m (b ∷ bs)) ≡ true → (is_mark b ≡ true) × (m ≡ 1)
 unfolding is_one_mark
 mark_tells b bs zero le passes = absurd (false≢true passes)
 mark_tells b [] (suc m) le passes = ((and_parts (is_mark b) _ passes).0, omega arith)
@@ -311,21 +311,21 @@ reach_meta b bs (suc m) le passes =
     let most : m ≤ prefix_len is_meta_byte bs = run_most is_meta_byte bs m (omega arith) parts.1 in
     (parts.0, same_or_less kinds.Meta (suc (prefix_len is_meta_byte bs)) (suc m) (omega arith))
 
-c_begins : (b : ℕ) (bs : List ℕ) (m : ℕ) → after 99 is_quoted (take m (b ∷ bs)) ≡ true → begins_word b ≡ true
+pub c_begins : (b : ℕ) (bs : List ℕ) (m : ℕ) → after 99 is_quoted (take m (b ∷ bs)) ≡ true → begins_word b ≡ true
 c_begins b bs zero passes = absurd (false≢true passes)
 c_begins b bs (suc m) passes = subst (λ x. begins_word x ≡ true) (sym (eqb-true b 99 (and_parts (eqb b 99) _ passes).0)) class_signs.6
 
-word_begins : (b : ℕ) (bs : List ℕ) (m : ℕ) → is_word (take m (b ∷ bs)) ≡ true → begins_word b ≡ true
+pub word_begins : (b : ℕ) (bs : List ℕ) (m : ℕ) → is_word (take m (b ∷ bs)) ≡ true → begins_word b ≡ true
 unfolding is_word
 word_begins b bs m passes = (headed_first begins_word is_name_byte b bs m passes).1
 
-class_integer : (b : ℕ) (bs : List ℕ) (m : ℕ) → is_integer (take m (b ∷ bs)) ≡ true → class_of b ≡ classes.Number
+pub class_integer : (b : ℕ) (bs : List ℕ) (m : ℕ) → is_integer (take m (b ∷ bs)) ≡ true → class_of b ≡ classes.Number
 class_integer b bs m passes = ⊎_elim
     (λ digit. class_number b (digit_begins_no_word b digit) (or_left _ _ digit))
     (λ minus. class_at b 45 classes.Number minus class_signs.5)
     (integer_first b bs m passes)
 
-name_class : (b : ℕ) → is_name_byte b ≡ true → (class_of b ≡ classes.Letter) ⊎ (class_of b ≡ classes.Number)
+pub name_class : (b : ℕ) → is_name_byte b ≡ true → (class_of b ≡ classes.Letter) ⊎ (class_of b ≡ classes.Number)
 unfolding is_name_byte begins_name
 name_class b name = by_test (begins_word b)
     (λ word. inl (class_letter b word))

@@ -41,7 +41,7 @@ closes_only (x ∷ xs) (suc m) le passes =
     let more = closes_only xs m (omega arith) h in
     rw no (omega (arith, more.0), omega (arith, more.1)))
 
-closing_measures : Measures closes closing_len
+pub closing_measures : Measures closes closing_len
 unfolding closing_len
 closing_measures = record {
   within = λ xs. by_test (ltb (prefix_len is_no_quote xs) (length xs))

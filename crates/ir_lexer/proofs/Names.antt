@@ -53,15 +53,15 @@ quote_begins_no_name = refl
 
 -- names
 
-name_quoted : (x : ℕ) (xs : List ℕ) → eqb x 34 ≡ true → name_len (x ∷ xs) ≡ quoted_len (x ∷ xs)
+pub name_quoted : (x : ℕ) (xs : List ℕ) → eqb x 34 ≡ true → name_len (x ∷ xs) ≡ quoted_len (x ∷ xs)
 unfolding name_len quoted_len
 name_quoted x xs quote = rw quote refl
 
-name_plain : (x : ℕ) (xs : List ℕ) → begins_name x ≡ true → name_len (x ∷ xs) ≡ prefix_len is_name_byte (x ∷ xs)
+pub name_plain : (x : ℕ) (xs : List ℕ) → begins_name x ≡ true → name_len (x ∷ xs) ≡ prefix_len is_name_byte (x ∷ xs)
 unfolding name_len
 name_plain x xs begins = let no : eqb x 34 ≡ false = begin_is_no x 34 begins quote_begins_no_name in rw (no, begins) refl
 
-name_decimal : (x : ℕ) (xs : List ℕ) → eqb x 34 ≡ false → begins_name x ≡ false → name_len (x ∷ xs) ≡ prefix_len is_ascii_digit (x ∷ xs)
+pub name_decimal : (x : ℕ) (xs : List ℕ) → eqb x 34 ≡ false → begins_name x ≡ false → name_len (x ∷ xs) ≡ prefix_len is_ascii_digit (x ∷ xs)
 unfolding name_len
 name_decimal x xs other none = rw (other, none) refl
 
@@ -107,7 +107,7 @@ pub run_first : (x : ℕ) (xs : List ℕ) (m : ℕ) → is_run (take m (x ∷ xs
 unfolding is_run
 run_first x xs m passes = headed_first is_name_byte is_name_byte x xs m passes
 
-quote_is_no_digit : is_ascii_digit 34 ≡ false
+pub quote_is_no_digit : is_ascii_digit 34 ≡ false
 quote_is_no_digit = refl
 
 name_most : (xs : List ℕ) (m : ℕ) → m ≤ length xs → is_name (take m xs) ≡ true → (0 < m) × (m ≤ name_len xs)
@@ -141,11 +141,11 @@ name_measures = record {
 
 -- integers
 
-integer_signed : (x : ℕ) (xs : List ℕ) → eqb x 45 ≡ true → integer_len (x ∷ xs) ≡ behind 45 (prefix_len is_ascii_digit) (x ∷ xs)
+pub integer_signed : (x : ℕ) (xs : List ℕ) → eqb x 45 ≡ true → integer_len (x ∷ xs) ≡ behind 45 (prefix_len is_ascii_digit) (x ∷ xs)
 unfolding integer_len
 integer_signed x xs minus = rw minus refl
 
-integer_plain : (x : ℕ) (xs : List ℕ) → eqb x 45 ≡ false → integer_len (x ∷ xs) ≡ prefix_len is_ascii_digit (x ∷ xs)
+pub integer_plain : (x : ℕ) (xs : List ℕ) → eqb x 45 ≡ false → integer_len (x ∷ xs) ≡ prefix_len is_ascii_digit (x ∷ xs)
 unfolding integer_len
 integer_plain x xs other = rw other refl
 
@@ -171,7 +171,7 @@ integer_found (x ∷ xs) some = by_test (eqb x 45)
     let n : 0 < prefix_len is_ascii_digit (x ∷ xs) = omega (arith, e) in
     subst P (sym e) (or_left _ _ (decimal_measures.found (x ∷ xs) n)))
 
-minus_is_no_digit : is_ascii_digit 45 ≡ false
+pub minus_is_no_digit : is_ascii_digit 45 ≡ false
 minus_is_no_digit = refl
 
 -- an integer begins with a digit or -
@@ -210,7 +210,7 @@ run_wider p q wider (x ∷ xs) = by_test (p x)
     (λ yes. let h : prefix_len p xs ≤ prefix_len q xs = run_wider p q wider xs in rw (yes, wider x yes) (omega arith))
     (λ no. rw no (omega arith))
 
-minus_is_name : is_name_byte 45 ≡ true
+pub minus_is_name : is_name_byte 45 ≡ true
 unfolding is_name_byte begins_name begins_word
 minus_is_name = refl
 

@@ -9,7 +9,7 @@ use Rattle.ir_lexer.specs.Signs.{is_blank, begins_word, is_mark, is_no_line_feed
 use Rattle.ir_lexer.specs.Tokens.{IsBlank, IsComment, IsLongest, NothingBegins, Piece, Blank, Comment, Lexeme, len_of, BeginsWith}
 use Rattle.ir_lexer.specs.Front.{class_of, front, front_of}
 use Rattle.ir_lexer.proofs.Runs.{run_passes, run_most}
-use Rattle.ir_lexer.proofs.Fronts.{Found, Reach, found, reach}
+use Rattle.ir_lexer.proofs.Fronts.{IsFound, Found, Reach, found, reach}
 
 -- the piece at the front
 abbrev pub lexeme : Option (Kind × ℕ) → Option Piece
@@ -161,3 +161,15 @@ pub piece_bounds : (rest : List ℕ) (p : Piece) → BeginsWith rest p → (0 < 
 piece_bounds rest p begins =
     let is : Next rest (Some p) = subst (Next rest) (next_only rest p begins) (next_is rest) in
     (is.some, is.within)
+
+-- the token that front gives is the longest
+pub found_longest : (rest : List ℕ) (kind : Kind) (len : ℕ) → front rest ≡ Some (kind, len) → IsLongest rest kind len
+found_longest rest kind len e =
+    let is : IsFound rest kind len = subst (Found rest) e (found rest) in
+    record {
+      within = is.within;
+      spelled = is.spelled;
+      longest = λ other longer lt le. false_from_ne_true _ (λ spelled.
+          ⊎_elim (λ less. absurd (omega arith)) (λ same. absurd (omega (arith, same.0)))
+          (subst (λ o. Reach o other longer) e (reach rest other longer le spelled)));
+    }

@@ -3,3 +3,4 @@ pub mod Spelled
 pub mod Tokens
 pub mod Front
 pub mod Texts
+pub mod Written

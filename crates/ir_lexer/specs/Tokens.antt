@@ -1,5 +1,5 @@
 -- The tokens of a text: with blanks and comments between them they tile its bytes, the longest one at each place.
-use Rattle.std.specs.Prelude.{◌≡◌, ℕ, ◌+◌, ◌-◌, ◌<◌, ◌≤◌, IsTrue, IsFalse, List, [], ◌∷◌, length, take, drop, slice_index, Result, Ok, Err}
+use Rattle.std.specs.Prelude.{◌≡◌, ℕ, ◌+◌, ◌-◌, ◌<◌, ◌≤◌, IsTrue, IsFalse, List, [], ◌∷◌, map, length, take, drop, slice_index, Result, Ok, Err}
 use Rattle.std.specs.List.{list_all}
 use Rattle.ir_lexer.specs.declared.token.Kind.{Kind}
 use Rattle.ir_lexer.specs.declared.token.Token.{Token}
@@ -77,6 +77,10 @@ pub record IsBadByte (bytes : List ℕ) (at : ℕ) : Type 0 where
 -- the bytes of a token
 abbrev pub text_of : List ℕ → Token → List ℕ
 text_of bytes t = take (t.to - t.from) (drop t.from bytes)
+
+-- the tokens of the bytes, each as its kind and its text
+abbrev pub texts_of : List ℕ → List Token → List (Kind × List ℕ)
+texts_of bytes ts = map (λ (t : Token). (t.kind, text_of bytes t)) ts
 
 -- From a place on the tokens stand in order up to an end, each of one byte or more.
 abbrev pub InOrder : ℕ → List Token → ℕ → Type 0

@@ -3,7 +3,8 @@ ghost use Rattle.std.specs.Prelude.{◌≡◌, ◌⊎◌, ℕ, List, IsTrue};
 ghost use Rattle.ir_lexer.specs.declared.token.Kind.{Kind};
 ghost use Rattle.ir_lexer.specs.declared.token.Token.{Token};
 ghost use Rattle.ir_lexer.specs.Spelled.{is_spelled};
-ghost use Rattle.ir_lexer.specs.Tokens.{Tokens, IsBadByte};
+ghost use Rattle.ir_lexer.specs.Tokens.{Tokens, IsBadByte, texts_of};
+ghost use Rattle.ir_lexer.specs.Written.{Part, bytes_of, spellings_of, IsReadable};
 
 /// A text has one list of tokens at most.
 pub fn tokens_are_one()
@@ -24,4 +25,10 @@ pub fn tokens_or_bad_byte()
 /// No bytes are tokens of two kinds.
 pub fn kinds_are_apart()
     ensures { (kind other : Kind) (text : List ℕ) → IsTrue (is_spelled kind text) → IsTrue (is_spelled other text) → kind ≡ other }
+{}
+
+/// A text that is written token by token, with an end behind each, has these tokens.
+pub fn written_is_read()
+    ensures { (parts : List Part) → IsReadable parts →
+        (ts : List Token) × Tokens (bytes_of parts) ts × (texts_of (bytes_of parts) ts ≡ spellings_of parts) }
 {}
