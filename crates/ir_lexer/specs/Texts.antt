@@ -1,5 +1,6 @@
 -- What the text of a token stands for: a name without its sign and quotes, a string without its quotes, escapes as bytes.
-use Rattle.std.specs.Prelude.{ℕ, ◌+◌, ◌-◌, ◌*◌, Bool, true, false, ◌&&◌, ◌==◌, List, [], ◌∷◌, length, take, drop, if◌then◌else◌}
+use Rattle.std.specs.Prelude.{ℕ, ◌+◌, ◌-◌, ◌*◌, Bool, true, false, IsTrue, ◌&&◌, ◌==◌, List, [], ◌∷◌, length, take, drop, if◌then◌else◌}
+use Rattle.std.specs.List.{list_any}
 use Rattle.std.specs.Char.{is_ascii_hexdigit, digit_value}
 use Rattle.ir_lexer.specs.declared.token.Kind.{Kind}
 use Rattle.ir_lexer.specs.declared.token.Kind.TheVariants.{AtName, LocalName, Hash, Meta, Str, CStr, Label, Word, Int, Mark}
@@ -31,6 +32,9 @@ unescaped (b ∷ c ∷ d ∷ bs) = elim (b == 92) [
     ]
   ]
 ]
+
+abbrev pub HasBackslash : List ℕ → Type 0
+HasBackslash text = IsTrue (list_any (λ b. b == 92) text)
 
 -- what stands between the quotes of a string
 abbrev pub inside : List ℕ → List ℕ

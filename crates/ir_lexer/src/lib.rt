@@ -14,5 +14,5 @@ pub use laws::{
     bad_byte_is_one, kinds_are_apart, tokens_are_one, tokens_or_bad_byte, written_is_read,
 };
 pub use lexing::lex;
-pub use text::{decode, unescape};
+pub use text::{decode, undecoded, unescape};
 pub use token::{Kind, LexFault, Token};

@@ -1,7 +1,8 @@
 //! What tokens stand for.
-ghost use Rattle.std.specs.Prelude.{◌≡◌, ◌<◌, ◌≤◌, ◌∷◌, ◌-◌, length, take, drop, IfOk, if◌then◌else◌, Some, None};
+ghost use Rattle.std.specs.Prelude.{◌≡◌, ◌==◌, ◌<◌, ◌≤◌, ◌∷◌, ◌-◌, length, take, drop, IfOk, IfSome, IfNone, if◌then◌else◌, Some, None};
+ghost use Rattle.std.specs.List.{list_any};
 ghost use Rattle.std.specs.Char.{is_ascii_hexdigit, digit_value};
-ghost use Rattle.ir_lexer.specs.Texts.{unescaped, inside, name_of, stands_for};
+ghost use Rattle.ir_lexer.specs.Texts.{unescaped, inside, HasBackslash, name_of, stands_for};
 ghost use Rattle.ir_lexer.specs.Tokens.{text_of};
 
 use crate::token::{Kind, Token};
@@ -72,6 +73,67 @@ fn name_bytes(alloc: Global, text: &[u8]) -> Result<Bytes, OutOfMemory>
         string_bytes(alloc, text)
     } else {
         Bytes::from_slice(alloc, text)
+    }
+}
+
+fn has_backslash(text: &[u8]) -> bool
+    ensures { result ≡ list_any (λ b. b == 92) text.now }
+{
+    text.iter().any(|byte| *byte == b'\\')
+}
+
+/// What stands between the quotes of a string, if there is no backslash in it.
+fn plain_string(text: &[u8]) -> Option<&[u8]>
+    ensures some { IfSome result (λ part. part.now ≡ unescaped (inside text.now)) }
+    ensures none { IfNone result (HasBackslash text.now) }
+{
+    match text {
+        [_, inside @ .., _] => {
+            if has_backslash(inside) {
+                None
+            } else {
+                Some(inside)
+            }
+        }
+        _ => Some(&text[..0]),
+    }
+}
+
+/// A name that is written plainly, or in quotes without a backslash.
+#[tactic(auto, unfolding(crate::specs::Texts::name_of, crate::specs::Spelled::has))]
+fn plain_name(text: &[u8]) -> Option<&[u8]>
+    ensures some { IfSome result (λ part. part.now ≡ name_of text.now) }
+    ensures none { IfNone result (HasBackslash text.now) }
+{
+    if !text.is_empty() && text[0] == b'"' {
+        plain_string(text)
+    } else {
+        Some(text)
+    }
+}
+
+/// The bytes that a token of a text stands for, as `decode` gives them, where they lie in the text as
+/// they are. `None` comes only where there is a backslash in the token's text; then `decode` gives
+/// them. Takes no memory.
+pub fn undecoded(bytes: &[u8], token: Token) -> Option<&[u8]>
+    requires order { token.from ≤ token.to }
+    requires within { token.to ≤ length bytes.now }
+    ensures some { IfSome result (λ part. part.now ≡ stands_for token.kind (text_of bytes.now token)) }
+    ensures none { IfNone result (HasBackslash (text_of bytes.now token)) }
+{
+    undecoded_text(token.kind, &bytes[token.from..token.to])
+}
+
+fn undecoded_text(kind: Kind, text: &[u8]) -> Option<&[u8]>
+    ensures some { IfSome result (λ part. part.now ≡ stands_for kind text.now) }
+    ensures none { IfNone result (HasBackslash text.now) }
+{
+    match kind {
+        Kind::AtName | Kind::LocalName => plain_name(behind_sign(text)),
+        Kind::Label => plain_name(before_colon(text)),
+        Kind::Str => plain_string(text),
+        Kind::CStr => plain_string(behind_sign(text)),
+        Kind::Hash | Kind::Meta | Kind::Word | Kind::Int | Kind::Mark => Some(text),
     }
 }
 
