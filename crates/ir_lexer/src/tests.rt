@@ -1,4 +1,4 @@
-use crate::{LexFault, Token, decode, lex};
+use crate::{LexFault, Token, decode, lex, undecoded};
 use std::alloc::Global;
 use std::mem::size_of;
 use std::test::Fail;
@@ -98,28 +98,32 @@ fn tokens_of_texts(rt: HostRuntime) -> Result<(), Fail> {
 
 #[test]
 fn what_tokens_stand_for(rt: HostRuntime) -> Result<(), Fail> {
-    let rows: [(&[u8], &[u8]); 13] = [
-        (b"%\"a\\22b\"", b"a\"b"),
-        (b"@0", b"0"),
-        (b"@\"0\"", b"0"),
-        (b"@\"\"", b""),
-        (b"%a.b", b"a.b"),
-        (b"x1:", b"x1"),
-        (b"\"x\\\\41\":", b"x\\41"),
-        (b"c\"a\\00\\fF\"", b"a\0\xff"),
-        (b"\"\\4\"", b"\\4"),
-        (b"\"\\4g\\\"", b"\\4g\\"),
-        (b"\"a\\b\"", b"a\\b"),
-        (b"!a\\5c", b"!a\\5c"),
-        (b"-12", b"-12"),
+    let rows: [(&[u8], &[u8], bool); 13] = [
+        (b"%\"a\\22b\"", b"a\"b", false),
+        (b"@0", b"0", true),
+        (b"@\"0\"", b"0", true),
+        (b"@\"\"", b"", true),
+        (b"%a.b", b"a.b", true),
+        (b"x1:", b"x1", true),
+        (b"\"x\\\\41\":", b"x\\41", false),
+        (b"c\"a\\00\\fF\"", b"a\0\xff", false),
+        (b"\"\\4\"", b"\\4", false),
+        (b"\"\\4g\\\"", b"\\4g\\", false),
+        (b"\"a\\b\"", b"a\\b", false),
+        (b"!a\\5c", b"!a\\5c", true),
+        (b"-12", b"-12", true),
     ];
-    for (text, wanted) in rows {
+    for (text, wanted, in_place) in rows {
         let tokens = lex(rt.alloc(), text).ok().ok_or("no tokens")?;
         assert_eq!(rt; tokens.len(), 1);
         let token = *tokens.get(0).ok_or("no token")?;
         assert!(rt; token.from <= token.to && token.to <= text.len());
         let bytes = decode(rt.alloc(), text, token).ok().ok_or("no bytes")?;
         assert!(rt; bytes.as_slice() == wanted);
+        match undecoded(text, token) {
+            Some(part) => assert!(rt; in_place && part == wanted),
+            None => assert!(rt; !in_place),
+        }
     }
     Ok(())
 }
