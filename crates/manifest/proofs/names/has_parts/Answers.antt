@@ -1,0 +1,11 @@
+use Rattle.std.proofs.Common.{◌==◌, rules, tests}
+use Rattle.std.proofs.lemmas.Iterator.Search.{all_from_yields_List}
+use Rattle.std.proofs.lemmas.Iterator.Splits.{YieldsList-from_slice_split}
+use Rattle.manifest.specs.Reading as reading
+use Rattle.manifest.proofs.names.has_parts.Goals as goal
+
+pub returns : goal.returns
+returns c =
+    all_from_yields_List reading.is_part _ _ c.all.result c.all.ensures.ran
+    (YieldsList-from_slice_split _ (λ byte. byte == 47) c.args.name.now c.split.ensures.rest c.split.ensures.done c.split.ensures.closure (λ x b q k. search (rules, tests)))
+    (λ x b q k. search (rules, tests))
