@@ -1,5 +1,5 @@
 -- The end of the search: the pairs in row order.
-use Rattle.std.proofs.Common.{◌≡◌, ◌≢◌, ℕ, ◌+◌, ◌-◌, ◌^◌, ◌<◌, ◌≤◌, Bool, true, false, List, [], ◌∷◌, All, AllPairs, Contains, length, get_or, take, map, min, sum_by, bytes_eq, is_lt, sym, ap, subst, ◌∙◌, refl, arith}
+use Rattle.std.proofs.Common.{◌≡◌, ℕ, ◌+◌, ◌-◌, ◌^◌, ◌<◌, ◌≤◌, false, List, [], ◌∷◌, All, length, get_or, take, map, min, sum_by, bytes_eq, is_lt, sym, ap, subst, ◌∙◌, refl, arith}
 use Rattle.std.specs.List.{IsDistinct}
 use Rattle.std.specs.List.Sorted.{IsPermutation, IsStrictlySortedBy, IsSortedByKey}
 use Rattle.std.specs.declared.cmp.Ordering.{Ordering}
@@ -50,7 +50,7 @@ module _ {P : Type 0} (needs : List ℕ → List (List ℕ)) (expands : List ℕ
       → IsWeighed expands size most found at pairs total → most < total → most < sum_by size found
   weighs_more found at pairs total searched end weighed past =
       let capped : total ≡ min (sum_by size found) (2 ^ 64 - 1) =
-          weighed.sized ∙ ap (λ (rows : List (List ℕ)). min (sum_by size rows) (2 ^ 64 - 1)) (whole found at searched.within end) in
+      weighed.sized ∙ ap (λ (rows : List (List ℕ)). min (sum_by size rows) (2 ^ 64 - 1)) (whole found at searched.within end) in
       over (sum_by size found) total (2 ^ 64 - 1) capped past
     where
       over : (sum total cap : ℕ) → total ≡ min sum cap → most < total → most < sum
@@ -64,17 +64,17 @@ module _ {P : Type 0} (needs : List ℕ → List (List ℕ)) (expands : List ℕ
       let all : AreAllNeeded needs roots found = ends needs roots found at searched end apart in
       let listed : map (λ pair. pair.0) pairs ≡ found = weighed.kept fits ∙ whole found at searched.within end in
       let moved_rows : IsPermutation found (map (λ pair. pair.0) sorted) =
-          subst (λ (rows : List (List ℕ)). IsPermutation rows (map (λ pair. pair.0) sorted)) listed (IsPermutation-map row_of pairs sorted moved) in
+      subst (λ (rows : List (List ℕ)). IsPermutation rows (map (λ pair. pair.0) sorted)) listed (IsPermutation-map row_of pairs sorted moved) in
       let rows : AreAllNeeded needs roots (map (λ pair. pair.0) sorted) = all_permuted needs roots found (map (λ pair. pair.0) sorted) moved_rows all in
       let capped : total ≡ min (sum_by size found) (2 ^ 64 - 1) =
-          weighed.sized ∙ ap (λ (rs : List (List ℕ)). min (sum_by size rs) (2 ^ 64 - 1)) (whole found at searched.within end) in
+      weighed.sized ∙ ap (λ (rs : List (List ℕ)). min (sum_by size rs) (2 ^ 64 - 1)) (whole found at searched.within end) in
       let exact : sum_by size found ≡ total = uncapped (sum_by size found) total (2 ^ 64 - 1) capped fits below in
       let sizes : sum_by (λ pair. size pair.0) sorted ≡ sum_by size found =
-          sym (sum_by-map row_of size sorted) ∙ sum_by-IsPermutation size found (map (λ pair. pair.0) sorted) moved_rows in
+      sym (sum_by-map row_of size sorted) ∙ sum_by-IsPermutation size found (map (λ pair. pair.0) sorted) moved_rows in
       record {
         order = ascends (map (λ pair. pair.0) sorted) rows.distinct (keys_rise row_of row_cmp sorted up);
         rows = rows;
         pieces = All-permutation (λ pair. expands pair.0 pair.1) pairs sorted moved (weighed.pieces fits);
         few = omega (arith, length_permutation found (map (λ pair. pair.0) sorted) moved_rows, length-map sorted row_of, end, turns);
-        small = omega (arith, sizes, exact, fits)
+        small = omega (arith, sizes, exact, fits);
       }

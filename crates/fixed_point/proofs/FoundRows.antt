@@ -1,5 +1,5 @@
 -- One more row among the found ones.
-use Rattle.std.proofs.Common.{◌≡◌, ℕ, ◌+◌, ◌<◌, Bool, true, false, List, [], ◌∷◌, ◌++◌, All, Contains, length, get_or, take, bytes_eq, if◌then◌else◌, sym, ap, subst, ◌∙◌, refl, arith, append_assoc}
+use Rattle.std.proofs.Common.{◌≡◌, ℕ, ◌+◌, ◌<◌, Bool, true, false, List, [], ◌∷◌, ◌++◌, All, Contains, length, get_or, take, bytes_eq, if◌then◌else◌, sym, ap, subst, ◌∙◌, refl, append_assoc}
 use Rattle.std.specs.List.{list_any}
 use Rattle.std.proofs.lemmas.List.{append-nil, take_more}
 use Rattle.std.proofs.lemmas.List.Elements.{All-more, All-append, All-weaker, All-nil, All-push, Contains-append_left, Contains-append_right, Contains-push}
@@ -28,18 +28,18 @@ adds_more old rows mid new i d within adds is =
     let longer : take (i + 1) rows ≡ take i rows ++ row ∷ [] = take_more rows i d within in
     let whole : new ≡ mid ++ last.0 = is ∙ last.1 in
     let before : All (Contains (take (i + 1) rows)) adds.more =
-        subst (λ (l : List (List ℕ)). All (Contains l) adds.more) (sym longer)
-          (All-weaker (Contains (take i rows)) (Contains (take i rows ++ row ∷ [])) (Contains-append_left (take i rows) (row ∷ [])) adds.more adds.added) in
+    subst (λ (l : List (List ℕ)). All (Contains l) adds.more) (sym longer)
+    (All-weaker (Contains (take i rows)) (Contains (take i rows ++ row ∷ [])) (Contains-append_left (take i rows) (row ∷ [])) adds.more adds.added) in
     let own : All (Contains (take (i + 1) rows)) last.0 =
-        subst (λ (l : List (List ℕ)). All (Contains l) last.0) (sym longer)
-          (All-weaker (Contains (row ∷ [])) (Contains (take i rows ++ row ∷ [])) (Contains-append_right (take i rows) (row ∷ [])) last.0 last.2) in
+    subst (λ (l : List (List ℕ)). All (Contains l) last.0) (sym longer)
+    (All-weaker (Contains (row ∷ [])) (Contains (take i rows ++ row ∷ [])) (Contains-append_right (take i rows) (row ∷ [])) last.0 last.2) in
     let stays : All (Contains new) (take i rows) =
-        subst (λ (l : List (List ℕ)). All (Contains l) (take i rows)) (sym whole)
-          (All-weaker (Contains mid) (Contains (mid ++ last.0)) (Contains-append_left mid last.0) (take i rows) adds.all) in
+    subst (λ (l : List (List ℕ)). All (Contains l) (take i rows)) (sym whole)
+    (All-weaker (Contains mid) (Contains (mid ++ last.0)) (Contains-append_left mid last.0) (take i rows) adds.all) in
     let there : Contains new row = subst (λ (l : List (List ℕ)). Contains l row) (sym is) (Contains-insert_key bytes_eq (λ a b. (same_rows a b).0) mid row) in
     record {
       more = adds.more ++ last.0;
       kept = whole ∙ ap (λ (l : List (List ℕ)). l ++ last.0) adds.kept ∙ append_assoc old adds.more last.0;
       added = All-append (Contains (take (i + 1) rows)) adds.more last.0 before own;
-      all = All-more (Contains new) rows i d within stays there
+      all = All-more (Contains new) rows i d within stays there;
     }

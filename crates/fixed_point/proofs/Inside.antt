@@ -1,7 +1,7 @@
 -- Lists of distinct things that stand in another list.
-use Rattle.std.proofs.Common.{◌≡◌, ◌≢◌, ℕ, suc, ◌+◌, ◌<◌, ◌≤◌, List, [], ◌∷◌, ◌++◌, All, AllPairs, Contains, length, sum_by, remove, sym, ap, ◌∙◌, subst, arith, length-append}
+use Rattle.std.proofs.Common.{◌≢◌, ℕ, suc, ◌≤◌, List, [], ◌∷◌, ◌++◌, All, AllPairs, Contains, length, sum_by, remove, sym, arith, length-append}
 use Rattle.std.specs.List.Sorted.{IsPermutation}
-use Rattle.std.proofs.lemmas.List.Elements.{All-head, All-tail, Contains-get_or, Contains-append_left}
+use Rattle.std.proofs.lemmas.List.Elements.{All-head, All-tail}
 use Rattle.std.proofs.lemmas.List.Sorted.{IsPermutation-refl, IsPermutation-cons, IsPermutation-trans, IsPermutation-remove, Contains-permutation, length_permutation, sum_by-IsPermutation}
 use Rattle.std.proofs.lemmas.List.Sums.{sum_by-append}
 use Rattle.std.proofs.lemmas.Map.Made.{Contains-tail}
@@ -20,8 +20,8 @@ module _ {X : Type 0} where
       let at = All-head (Contains ys) x xs all in
       let moved : IsPermutation ys (x ∷ remove ys at.0) = IsPermutation-remove ys at.0 x at.1 (sym at.2) in
       let left : All (Contains (remove ys at.0)) xs =
-          λ k d within. Contains-tail x (remove ys at.0) _ (pairs_head x xs apart k d within)
-            (Contains-permutation ys (x ∷ remove ys at.0) _ moved (All-tail (Contains ys) x xs all k d within)) in
+      λ k d within. Contains-tail x (remove ys at.0) _ (pairs_head x xs apart k d within)
+      (Contains-permutation ys (x ∷ remove ys at.0) _ moved (All-tail (Contains ys) x xs all k d within)) in
       let others = inside xs (remove ys at.0) (pairs_tail x xs apart) left in
       (others.0, IsPermutation-trans ys (x ∷ remove ys at.0) (x ∷ (xs ++ others.0)) moved (IsPermutation-cons x (remove ys at.0) (xs ++ others.0) others.1))
 

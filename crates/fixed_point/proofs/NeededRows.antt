@@ -1,10 +1,10 @@
 -- Laws of the needed rows.
-use Rattle.std.proofs.Common.{◌≡◌, ◌≢◌, ℕ, ◌<◌, ◌≤◌, ◌↔◌, Bool, true, false, List, All, AllPairs, Contains, length, get_or, sum_by, bytes_eq, sym, ◌∙◌, ap, arith, refl}
+use Rattle.std.proofs.Common.{◌≡◌, ℕ, ◌≤◌, ◌↔◌, Bool, true, false, List, All, Contains, length, get_or, sum_by, bytes_eq, sym, arith, refl}
 use Rattle.std.specs.List.{list_any}
 use Rattle.std.specs.List.Sorted.{IsStrictlySortedBy}
 use Rattle.std.proofs.lemmas.Map.Made.{is_member-Decides}
-use Rattle.demand_core.specs.Needed.{HoldsRoots, IsClosed, IsNeeded}
-use Rattle.fixed_point.specs.Needs.{IsLeast, AreNeeded, AreAllNeeded, NeedsMoreThan, WeighsMoreThan, IsFinite}
+use Rattle.demand_core.specs.Needed.{IsNeeded}
+use Rattle.fixed_point.specs.Needs.{IsLeast, AreNeeded, AreAllNeeded, NeedsMoreThan, WeighsMoreThan}
 use Rattle.fixed_point.proofs.Inside.{length-inside, sum_by-inside}
 use Rattle.fixed_point.proofs.RowOrder.{same_rows, row_cmp, sorted_same, all_contains}
 
@@ -45,8 +45,8 @@ module _ (needs : List ℕ → List (List ℕ)) (roots : List (List ℕ)) where
   listed_is_least rows all = record {
     holds = λ k d within. listed-Contains rows (get_or roots k d) (all.complete (get_or roots k d) (root_needed k d within));
     closed = λ row is k d within.
-      listed-Contains rows (get_or (needs row) k d) (all.complete (get_or (needs row) k d) (need_needed row (all_contains (IsNeeded needs roots) rows row all.needed (Contains-listed rows row is)) k d within));
-    least = λ t holds closed row is. all_contains (IsNeeded needs roots) rows row all.needed (Contains-listed rows row is) t holds closed
+        listed-Contains rows (get_or (needs row) k d) (all.complete (get_or (needs row) k d) (need_needed row (all_contains (IsNeeded needs roots) rows row all.needed (Contains-listed rows row is)) k d within));
+    least = λ t holds closed row is. all_contains (IsNeeded needs roots) rows row all.needed (Contains-listed rows row is) t holds closed;
   }
 
   -- distinct needed rows are at most as many as all needed rows, and so are their sizes

@@ -1,15 +1,14 @@
 -- The order of rows, and lists of rows in it.
-use Rattle.std.proofs.Common.{◌≡◌, ◌≢◌, ℕ, zero, suc, ◌+◌, ◌<◌, ◌≤◌, ◌⊎◌, inl, inr, Bool, true, false, List, [], ◌∷◌, All, AllPairs, Contains, length, get_or, bytes_eq, is_lt, sym, ap, subst, ◌∙◌, refl, arith}
+use Rattle.std.proofs.Common.{◌≡◌, ◌≢◌, ℕ, zero, suc, ◌<◌, ◌⊎◌, inl, inr, List, [], ◌∷◌, All, AllPairs, Contains, length, get_or, bytes_eq, sym, ap, subst, ◌∙◌, refl, arith}
 use Rattle.std.specs.Bool.{Decides}
-use Rattle.std.specs.Cmp.{IsTotalOrder}
 use Rattle.std.specs.Cmp.Lexicographic.{slice_cmp, bytes_decides, nat_list_cmp_total, texts_ties}
-use Rattle.std.specs.Ordering.{nat_cmp, is_eq, is_some_and, ordering_reverse}
+use Rattle.std.specs.Ordering.{nat_cmp, is_eq}
 use Rattle.std.specs.declared.cmp.Ordering.{Ordering}
-use Rattle.std.specs.declared.cmp.Ordering.TheVariants.{Less, Equal, Greater}
-use Rattle.std.specs.List.Sorted.{IsStrictlySortedBy, IsSortedByKey}
+use Rattle.std.specs.declared.cmp.Ordering.TheVariants.{Less, Equal}
+use Rattle.std.specs.List.Sorted.{IsStrictlySortedBy}
 use Rattle.std.proofs.lemmas.Cmp.{tied_itself}
 use Rattle.std.proofs.lemmas.List.Elements.{All-head, All-tail, All-from_recursion}
-use Rattle.std.proofs.lemmas.Map.Keys.{sorted_head, sorted_tail, Less-from_sorted, sorted_from_all_adjacent}
+use Rattle.std.proofs.lemmas.Map.Keys.{sorted_head, sorted_tail, Less-from_sorted}
 use Rattle.std.proofs.lemmas.Map.Made.{Contains-tail}
 
 abbrev pub row_cmp : List ℕ → List ℕ → Ordering
@@ -51,13 +50,13 @@ first_same : (x : List ℕ) (xs : List (List ℕ)) (y : List ℕ) (ys : List (Li
     → Contains (y ∷ ys) x → Contains (x ∷ xs) y → x ≡ y
 first_same x xs y ys up other there back =
     elim (contains_cases y ys x there) [
-      inl same ↦ sym same
-    | inr later ↦ elim (contains_cases x xs y back) [
-        inl same ↦ same
-      | inr after ↦
-          let up_x = all_contains (λ z. row_cmp y z ≡ Less) ys x (All-from_recursion (λ z. row_cmp y z ≡ Less) ys (sorted_head row_cmp y ys other)) later in
-          let up_y = all_contains (λ z. row_cmp x z ≡ Less) xs y (All-from_recursion (λ z. row_cmp x z ≡ Less) xs (sorted_head row_cmp x xs up)) after in
-          absurd (not_below_itself x (nat_list_cmp_total.trans x y x up_y up_x))
+      | inl same ↦ sym same
+      | inr later ↦ elim (contains_cases x xs y back) [
+        | inl same ↦ same
+        | inr after ↦
+            let up_x = all_contains (λ z. row_cmp y z ≡ Less) ys x (All-from_recursion (λ z. row_cmp y z ≡ Less) ys (sorted_head row_cmp y ys other)) later in
+            let up_y = all_contains (λ z. row_cmp x z ≡ Less) xs y (All-from_recursion (λ z. row_cmp x z ≡ Less) xs (sorted_head row_cmp x xs up)) after in
+            absurd (not_below_itself x (nat_list_cmp_total.trans x y x up_y up_x))
       ]
     ]
 

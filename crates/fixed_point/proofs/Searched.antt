@@ -1,7 +1,7 @@
 -- The search for needed rows: the rows found so far, of which the first ones are expanded.
-use Rattle.std.proofs.Common.{◌≡◌, ◌≢◌, ℕ, ◌+◌, ◌-◌, ◌^◌, ◌<◌, ◌≤◌, Bool, true, false, List, [], ◌∷◌, ◌++◌, All, AllPairs, Contains, length, get_or, take, map, min, sum_by, bytes_eq, is_lt, sym, ap, subst, ◌∙◌, refl, arith, length-append}
+use Rattle.std.proofs.Common.{◌≡◌, ◌≢◌, ℕ, ◌+◌, ◌-◌, ◌^◌, ◌<◌, ◌≤◌, true, false, List, [], ◌∷◌, ◌++◌, All, AllPairs, Contains, length, get_or, take, map, min, sum_by, bytes_eq, is_lt, sym, ap, subst, ◌∙◌, refl, arith, length-append}
 use Rattle.std.specs.List.{IsDistinct}
-use Rattle.std.specs.List.Sorted.{IsPermutation, IsStrictlySortedBy, IsSortedBy}
+use Rattle.std.specs.List.Sorted.{IsPermutation, IsStrictlySortedBy}
 use Rattle.std.specs.declared.cmp.Ordering.{Ordering}
 use Rattle.std.specs.declared.cmp.Ordering.TheVariants.{Less, Equal, Greater}
 use Rattle.std.specs.Ordering.{ordering_reverse}
@@ -10,12 +10,12 @@ use Rattle.std.proofs.lemmas.List.{take-append-le, take_more, map-append}
 use Rattle.std.proofs.lemmas.List.Sums.{sum_by_push}
 use Rattle.std.proofs.Math.Seq.{take-length}
 use Rattle.std.proofs.lemmas.List.Elements.{All-append, All-more, All-weaker, All-nil, All-push, Contains-append_left}
-use Rattle.std.proofs.lemmas.List.Sorted.{All-permutation, Contains-permutation, IsPermutation-sym}
+use Rattle.std.proofs.lemmas.List.Sorted.{All-permutation, Contains-permutation}
 use Rattle.std.proofs.lemmas.Map.Keys.{IsDistinct-IsPermutation, sorted_from_all_adjacent}
 use Rattle.std.proofs.lemmas.Map.Made.{AllPairs-from_IsDistinct, IsDistinct-from_AllPairs}
-use Rattle.demand_core.specs.Needed.{HoldsRoots, IsClosed, IsNeeded}
+use Rattle.demand_core.specs.Needed.{IsNeeded}
 use Rattle.fixed_point.specs.Found.{Adds}
-use Rattle.fixed_point.specs.Needs.{AreNeeded, AreAllNeeded, NeedsMoreThan, WeighsMoreThan}
+use Rattle.fixed_point.specs.Needs.{AreAllNeeded, NeedsMoreThan}
 use Rattle.fixed_point.proofs.NeededRows.{listed, Contains-listed, listed-Contains, root_needed, need_needed}
 use Rattle.fixed_point.proofs.RowOrder.{row_cmp, same_rows, equal_rows, all_contains}
 
@@ -55,7 +55,7 @@ module _ {P : Type 0} (expands : List ℕ → P → Type 0) (size : List ℕ →
   weighs_none found pairs total none nothing = record {
     sized = nothing;
     kept = λ _. ap (map (λ pair. pair.0)) none;
-    pieces = λ _. subst (All (λ pair. expands pair.0 pair.1)) (sym none) (All-nil (λ pair. expands pair.0 pair.1))
+    pieces = λ _. subst (All (λ pair. expands pair.0 pair.1)) (sym none) (All-nil (λ pair. expands pair.0 pair.1));
   }
 
   -- one more row is weighed, and kept with its piece where that fits
@@ -70,8 +70,8 @@ module _ {P : Type 0} (expands : List ℕ → P → Type 0) (size : List ℕ →
       record {
         sized = sized_more found new at row total after longer so_far.sized risen;
         kept = λ fits. ap (map (λ pair. pair.0)) (put fits) ∙ map-append (λ (pair : List ℕ × P). pair.0) pairs ((row, piece) ∷ [])
-          ∙ ap (λ (l : List (List ℕ)). l ++ row ∷ []) (so_far.kept (within fits)) ∙ sym longer;
-        pieces = λ fits. subst (All (λ pair. expands pair.0 pair.1)) (sym (put fits)) (All-push (λ pair. expands pair.0 pair.1) pairs (row, piece) (so_far.pieces (within fits)) own)
+            ∙ ap (λ (l : List (List ℕ)). l ++ row ∷ []) (so_far.kept (within fits)) ∙ sym longer;
+        pieces = λ fits. subst (All (λ pair. expands pair.0 pair.1)) (sym (put fits)) (All-push (λ pair. expands pair.0 pair.1) pairs (row, piece) (so_far.pieces (within fits)) own);
       }
 
 module _ (needs : List ℕ → List (List ℕ)) (roots : List (List ℕ)) where
@@ -79,10 +79,10 @@ module _ (needs : List ℕ → List (List ℕ)) (roots : List (List ℕ)) where
   pub begins : (found : List (List ℕ)) → Adds [] roots found → IsSearched needs roots found 0
   begins found adds = record {
     needed = subst (All (IsNeeded needs roots)) (sym adds.kept)
-      (All-weaker (Contains roots) (IsNeeded needs roots) (λ row there. all_contains (IsNeeded needs roots) roots row (root_needed needs roots) there) adds.more adds.added);
+        (All-weaker (Contains roots) (IsNeeded needs roots) (λ row there. all_contains (IsNeeded needs roots) roots row (root_needed needs roots) there) adds.more adds.added);
     rooted = adds.all;
     asked = All-nil (λ row. All (Contains found) (needs row));
-    within = omega arith
+    within = omega arith;
   }
 
   -- one more found row is expanded
@@ -91,19 +91,19 @@ module _ (needs : List ℕ → List (List ℕ)) (roots : List (List ℕ)) where
   goes_on found new at row so_far more is adds =
       let own : IsNeeded needs roots row = subst (IsNeeded needs roots) is (so_far.needed at row more) in
       let stays : (xs : List (List ℕ)) → All (Contains found) xs → All (Contains new) xs =
-          λ xs all. subst (λ (l : List (List ℕ)). All (Contains l) xs) (sym adds.kept) (All-weaker (Contains found) (Contains (found ++ adds.more)) (Contains-append_left found adds.more) xs all) in
+      λ xs all. subst (λ (l : List (List ℕ)). All (Contains l) xs) (sym adds.kept) (All-weaker (Contains found) (Contains (found ++ adds.more)) (Contains-append_left found adds.more) xs all) in
       let front : take (at + 1) new ≡ take (at + 1) found =
-          ap (take (at + 1)) adds.kept ∙ take-append-le (at + 1) found adds.more (omega arith) in
+      ap (take (at + 1)) adds.kept ∙ take-append-le (at + 1) found adds.more (omega arith) in
       let before : All (λ r. All (Contains new) (needs r)) (take at found) =
-          All-weaker (λ r. All (Contains found) (needs r)) (λ r. All (Contains new) (needs r)) (λ r all. stays (needs r) all) (take at found) so_far.asked in
+      All-weaker (λ r. All (Contains found) (needs r)) (λ r. All (Contains new) (needs r)) (λ r all. stays (needs r) all) (take at found) so_far.asked in
       let here : All (Contains new) (needs (get_or found at row)) = subst (λ (r : List ℕ). All (Contains new) (needs r)) (sym is) adds.all in
       record {
         needed = subst (All (IsNeeded needs roots)) (sym adds.kept)
-          (All-append (IsNeeded needs roots) found adds.more so_far.needed
+            (All-append (IsNeeded needs roots) found adds.more so_far.needed
             (All-weaker (Contains (needs row)) (IsNeeded needs roots) (λ r there. all_contains (IsNeeded needs roots) (needs row) r (need_needed needs roots row own) there) adds.more adds.added));
         rooted = stays roots so_far.rooted;
         asked = subst (All (λ r. All (Contains new) (needs r))) (sym front) (All-more (λ r. All (Contains new) (needs r)) found at row more before here);
-        within = omega (arith, ap length adds.kept, length-append found adds.more)
+        within = omega (arith, ap length adds.kept, length-append found adds.more);
       }
 
   -- where all found rows are expanded, they are all that are needed
@@ -115,8 +115,8 @@ module _ (needs : List ℕ → List (List ℕ)) (roots : List (List ℕ)) where
         distinct = AllPairs-from_IsDistinct same_rows found apart;
         needed = so_far.needed;
         complete = λ row needed. Contains-listed found row (needed (listed found)
-          (λ k d within. listed-Contains found (get_or roots k d) (so_far.rooted k d within))
-          (λ r is k d within. listed-Contains found (get_or (needs r) k d) (all_contains (λ x. All (Contains found) (needs x)) found r asked (Contains-listed found r is) k d within)))
+            (λ k d within. listed-Contains found (get_or roots k d) (so_far.rooted k d within))
+            (λ r is k d within. listed-Contains found (get_or (needs r) k d) (all_contains (λ x. All (Contains found) (needs x)) found r asked (Contains-listed found r is) k d within)));
       }
 
   -- more than so many found rows are needed
@@ -128,9 +128,9 @@ module _ (needs : List ℕ → List (List ℕ)) (roots : List (List ℕ)) where
   pub all_permuted : (rows others : List (List ℕ)) → IsPermutation rows others → AreAllNeeded needs roots rows → AreAllNeeded needs roots others
   all_permuted rows others moved all = record {
     distinct = AllPairs-from_IsDistinct same_rows others
-      (IsDistinct-IsPermutation bytes_eq nat_list_eq_equiv.symm rows others moved (IsDistinct-from_AllPairs same_rows rows all.distinct));
+        (IsDistinct-IsPermutation bytes_eq nat_list_eq_equiv.symm rows others moved (IsDistinct-from_AllPairs same_rows rows all.distinct));
     needed = All-permutation (IsNeeded needs roots) rows others moved all.needed;
-    complete = λ row needed. Contains-permutation rows others row moved (all.complete row needed)
+    complete = λ row needed. Contains-permutation rows others row moved (all.complete row needed);
   }
 
 -- distinct rows in order ascend
@@ -145,4 +145,4 @@ not_above a b up differ = by (row_cmp b a) refl
 pub ascends : (rows : List (List ℕ)) → AllPairs (λ a b. a ≢ b) rows → ((k : ℕ) (d : List ℕ) → 0 ≤ k → k + 1 < length rows → is_lt (row_cmp (get_or rows (k + 1) d) (get_or rows k d)) ≡ false) → IsStrictlySortedBy row_cmp rows
 ascends rows apart up =
     sorted_from_all_adjacent nat_list_cmp_total rows []
-      (λ k within. not_above (get_or rows k []) (get_or rows (k + 1) []) (up k [] (omega arith) within) (apart k (k + 1) [] (omega arith) within))
+    (λ k within. not_above (get_or rows k []) (get_or rows (k + 1) []) (up k [] (omega arith) within) (apart k (k + 1) [] (omega arith) within))

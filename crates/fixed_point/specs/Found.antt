@@ -1,5 +1,5 @@
 -- Rows that were found, in the order in which they were found.
-use Rattle.std.specs.Prelude.{◌≡◌, ◌≢◌, ℕ, List, ◌++◌, All, AllPairs, Contains}
+use Rattle.std.specs.Prelude.{◌≡◌, ℕ, List, ◌++◌, All, Contains}
 
 -- `new` is `old` with those of the rows that weren't there put to its end, each once
 pub record Adds (old rows new : List (List ℕ)) : Type 0 where

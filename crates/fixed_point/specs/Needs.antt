@@ -1,5 +1,5 @@
 -- Lists of needed rows, and when there are too many of them or their sizes add to too much.
-use Rattle.std.specs.Prelude.{◌≡◌, ◌≢◌, ℕ, ◌<◌, ◌≤◌, Bool, true, List, All, AllPairs, Contains, length, sum_by}
+use Rattle.std.specs.Prelude.{◌≡◌, ◌≢◌, ℕ, ◌<◌, Bool, true, List, All, AllPairs, Contains, length, sum_by}
 use Rattle.demand_core.specs.Needed.{HoldsRoots, IsClosed, IsNeeded}
 
 -- the set holds the roots, is closed under needs, and is contained in every such set

@@ -27,15 +27,15 @@ pub fn least<E: Expand>(
     ensures order { IfOk result (λ pairs. IsStrictlySortedBy (slice_cmp nat_cmp) (map (λ pair. pair.0) pairs)) }
     ensures rows { IfOk result (λ pairs. AreAllNeeded (E.needs_of e.now) roots.now (map (λ pair. pair.0) pairs)) }
     ensures pieces { IfOk result (λ pairs. All (λ pair. E.expands e.now pair.0 pair.1) pairs) }
-    ensures few { IfOk result (λ pairs. length pairs ≤ MOST_DEMANDS) }
-    ensures small { IfOk result (λ pairs. sum_by (λ pair. E.size_of e.now pair.0) pairs ≤ MOST_CODE) }
+    ensures few { IfOk result (λ pairs. length pairs ≤ 65536) }
+    ensures small { IfOk result (λ pairs. sum_by (λ pair. E.size_of e.now pair.0) pairs ≤ 8388608) }
     ensures finite { OnOk result (IsFinite (E.needs_of e.now) roots.now) }
     // Each refusal comes exactly where its cause holds.
-    ensures too_many { result ≡ Err FixFault.TooManyDemands → NeedsMoreThan (E.needs_of e.now) roots.now MOST_DEMANDS }
-    ensures too_much { result ≡ Err FixFault.TooMuchCode → WeighsMoreThan (E.needs_of e.now) (E.size_of e.now) roots.now MOST_CODE }
-    ensures too_much_of_few { result ≡ Err FixFault.TooMuchCode → ¬ NeedsMoreThan (E.needs_of e.now) roots.now MOST_DEMANDS }
-    ensures not_too_many { OnOk result (¬ NeedsMoreThan (E.needs_of e.now) roots.now MOST_DEMANDS) }
-    ensures not_too_much { OnOk result (¬ WeighsMoreThan (E.needs_of e.now) (E.size_of e.now) roots.now MOST_CODE) }
+    ensures too_many { result ≡ Err FixFault.TooManyDemands → NeedsMoreThan (E.needs_of e.now) roots.now 65536 }
+    ensures too_much { result ≡ Err FixFault.TooMuchCode → WeighsMoreThan (E.needs_of e.now) (E.size_of e.now) roots.now 8388608 }
+    ensures too_much_of_few { result ≡ Err FixFault.TooMuchCode → ¬ NeedsMoreThan (E.needs_of e.now) roots.now 65536 }
+    ensures not_too_many { OnOk result (¬ NeedsMoreThan (E.needs_of e.now) roots.now 65536) }
+    ensures not_too_much { OnOk result (¬ WeighsMoreThan (E.needs_of e.now) (E.size_of e.now) roots.now 8388608) }
 {
     drop(given);
     let mut found = IndexSet::new(alloc);

@@ -16,16 +16,14 @@ pub fn least_set_is_one()
         → IsLeast needs roots s → (row : List ℕ) → (s row ≡ true) ↔ IsNeeded needs roots row }
     ensures listed { (needs : List ℕ → List (List ℕ)) (roots rows : List (List ℕ))
         → AreAllNeeded needs roots rows → IsLeast needs roots (λ row. list_any (bytes_eq row) rows) }
-{
-}
+{}
 
 /// The needed rows in row order are one list.
 pub fn rows_are_one()
     ensures { (needs : List ℕ → List (List ℕ)) (roots rows others : List (List ℕ))
         → AreAllNeeded needs roots rows → AreAllNeeded needs roots others
         → IsStrictlySortedBy (slice_cmp nat_cmp) rows → IsStrictlySortedBy (slice_cmp nat_cmp) others → rows ≡ others }
-{
-}
+{}
 
 /// Where a list of the needed rows is within a limit, none shows that they are past it.
 pub fn limits_exclude()
@@ -33,5 +31,4 @@ pub fn limits_exclude()
         → AreAllNeeded needs roots rows → length rows ≤ most → NeedsMoreThan needs roots most → ⊥ }
     ensures sizes { (needs : List ℕ → List (List ℕ)) (size : List ℕ → ℕ) (roots rows : List (List ℕ)) (most : ℕ)
         → AreAllNeeded needs roots rows → sum_by size rows ≤ most → WeighsMoreThan needs size roots most → ⊥ }
-{
-}
+{}

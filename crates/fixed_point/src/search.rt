@@ -51,7 +51,13 @@ impl<P: Drop> Kept<P> {
     }
 
     /// Counts a row's size, and keeps the row and its piece where the sizes are within the limit.
-    pub(crate) fn add(&mut self, alloc: Global, row: Row, piece: P, size: u64) -> Result<(), OutOfMemory>
+    pub(crate) fn add(
+        &mut self,
+        alloc: Global,
+        row: Row,
+        piece: P,
+        size: u64,
+    ) -> Result<(), OutOfMemory>
         ensures size { OnOk result (self.new.size ≡ min (self.old.size + size) (2 ^ 64 - 1)) }
         ensures kept { OnOk result (self.new.size ≤ MOST_CODE → self.new.pairs.items ≡ self.old.pairs.items ++ (row, piece) ∷ []) }
         ensures dropped { OnOk result (MOST_CODE < self.new.size → self.new.pairs.items ≡ []) }

@@ -8,7 +8,7 @@ abbrev pub invariant-loop-at : goal.invariant-loop-at
 invariant-loop-at g l = record {
   searched : IsSearched (g.E.Expand.needs_of l.e) l.roots l.found.keys l.at;
   turns : l.at ≤ MOST_DEMANDS;
-  weighed : IsWeighed (g.E.Expand.expands l.e) (g.E.Expand.size_of l.e) MOST_CODE l.found.keys l.at l.kept.pairs.items l.kept.size
+  weighed : IsWeighed (g.E.Expand.expands l.e) (g.E.Expand.size_of l.e) MOST_CODE l.found.keys l.at l.kept.pairs.items l.kept.size;
 }
 
 abbrev pub decreases-loop-at : goal.decreases-loop-at

@@ -1,4 +1,4 @@
-use Rattle.std.proofs.Common.{◌≡◌, List, ℕ, sym, subst, rules}
+use Rattle.std.proofs.Common.{◌≡◌, List, sym, subst, rules}
 use Rattle.std.specs.Fn.{Called, ComputesKey}
 use Rattle.std.specs.Cmp.Lexicographic.{slice_cmp}
 use Rattle.std.specs.Ordering.{nat_cmp}
@@ -18,4 +18,4 @@ sorted_by_key {g = g} {f = f} key cmp xs up says = up key (answers_always g (λ 
 pub returns-clause-order : goal.returns-clause-order
 returns-clause-order g c =
     subst (λ (xs : List _). IsSortedByKey (λ pair. pair.0) (slice_cmp nat_cmp) xs) (sym c.from_vec.ensures)
-      (sorted_by_key (λ pair. pair.0) (slice_cmp nat_cmp) c.sort_by_key.new.self.items c.in_ok-sort_by_key.ensures.sorted (λ f a r f' q. search rules))
+    (sorted_by_key (λ pair. pair.0) (slice_cmp nat_cmp) c.sort_by_key.new.self.items c.in_ok-sort_by_key.ensures.sorted (λ f a r f' q. search rules))
