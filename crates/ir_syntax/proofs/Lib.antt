@@ -1,1 +1,4 @@
 pub mod ResultLemmas
+pub mod SuitLemmas
+pub mod WorkedItems
+pub mod WorkedRows

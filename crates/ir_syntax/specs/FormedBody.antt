@@ -1,5 +1,5 @@
 -- What a body of a function may be: what a text can write.
-use Rattle.std.specs.Prelude.{◌≡◌, ◌≢◌, ℕ, zero, pos, ◌<◌, ◌≤◌, Bool, true, false, ◌&&◌, ◌||◌, List, [], ◌∷◌, Option, None, Some, All, IfSome, length, slice_get, codes, bytes_eq, IsTrue}
+use Rattle.std.specs.Prelude.{◌≡◌, ◌≢◌, ℕ, zero, pos, ◌<◌, ◌≤◌, Bool, true, false, ◌||◌, List, [], ◌∷◌, Option, None, Some, All, IfSome, length, slice_get, codes, bytes_eq, IsTrue}
 use Rattle.ir_types.specs.declared.scalar.Scalar.{Scalar}
 use Rattle.ir_types.specs.declared.scalar.Scalar.TheVariants.{I1, Ptr}
 use Rattle.ir_types.specs.declared.scalar.FnType.{FnType}

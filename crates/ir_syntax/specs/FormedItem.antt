@@ -1,5 +1,5 @@
 -- What an item of a module may be: what a text can write.
-use Rattle.std.specs.Prelude.{◌≡◌, ◌≢◌, ℕ, ◌<◌, ◌≤◌, nat_eq, Bool, true, false, List, Option, None, Some, All, IsNone, IfSome, IfNone, OnSome, length, codes, IsTrue}
+use Rattle.std.specs.Prelude.{◌≡◌, ◌≢◌, ℕ, ◌<◌, ◌≤◌, nat_eq, Bool, false, List, All, IsNone, IfSome, IfNone, OnSome, length, codes, IsTrue}
 use Rattle.std.specs.List.{starts_with}
 use Rattle.ir_syntax.specs.declared.item.Linkage.TheVariants.{External}
 use Rattle.ir_syntax.specs.declared.item.Var.{Var}

@@ -4,7 +4,6 @@ use Rattle.std.specs.List.{list_all}
 use Rattle.ir_types.specs.declared.scalar.Scalar.{Scalar}
 use Rattle.ir_types.specs.declared.scalar.Scalar.TheVariants.{I1, I8, I16, I32, I64, Ptr}
 use Rattle.ir_types.specs.declared.shape.Ty.{Ty, out-Ty}
-use Rattle.ir_types.specs.declared.shape.Ty.TheBlock.{One}
 use Rattle.ir_types.specs.declared.shape.Ty.TheOpen.{Ty-F}
 use Rattle.ir_types.specs.Nesting.{nesting, nodes}
 use Rattle.ir_syntax.specs.declared.constant.Const.{Const}

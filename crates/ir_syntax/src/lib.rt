@@ -12,3 +12,6 @@ pub use body::{Arg, Block, Body, Inst, Phi, Term};
 pub use constant::{Const, Operand};
 pub use item::{Func, Item, Linkage, Module, Param, Var};
 pub use symbol::{Builtin, Intrinsic, Sym, SymName, Target};
+
+#[cfg(test)]
+mod tests;
