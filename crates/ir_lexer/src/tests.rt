@@ -1,4 +1,4 @@
-use crate::{LexFault, Token, decode, lex, undecoded};
+use crate::{LexFault, Token, decode, lex, undecoded, unescape};
 use std::alloc::Global;
 use std::mem::size_of;
 use std::test::Fail;
@@ -125,5 +125,7 @@ fn what_tokens_stand_for(rt: HostRuntime) -> Result<(), Fail> {
             None => assert!(rt; !in_place),
         }
     }
+    let bytes = unescape(rt.alloc(), b"\\41\\\\42").ok().ok_or("no bytes")?;
+    assert!(rt; bytes.as_slice() == b"A\\42".as_slice());
     Ok(())
 }

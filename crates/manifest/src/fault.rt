@@ -13,7 +13,8 @@ pub struct Manifest {
     pub modules: List<Bytes>,
     /// The name of the function that is entered.
     pub entry: Bytes,
-    /// What it is entered with, at most 32: `None` is not known, a number is from -2^63 to 2^64 - 1.
+    /// What it is entered with, at most 32: `None` is not known, and a number is from -2^63 to
+    /// 2^64 - 1.
     pub args: List<Option<i128>>,
     /// The names of the functions that the outside may call besides, in the order of the text.
     pub exports: List<Bytes>,
@@ -28,13 +29,15 @@ pub enum Key {
     Whole,
     /// `version` is the integer 1.
     Version,
-    /// `modules` has 1 to 256 distinct names of modules.
+    /// `modules` is a list of 1 to 256 distinct names. Each has 1 to 255 bytes of `[A-Za-z0-9._/-]`,
+    /// and no part between its slashes is empty, `.` or `..`.
     Modules,
-    /// `entry` is an object with just a `name` and at most 32 `args`.
+    /// `entry` is an object with just a `name`, of 1 to 4,096 bytes without a zero byte, and `args`, a
+    /// list of at most 32, each `null` or an integer from -2^63 to 2^64 - 1.
     Entry,
-    /// `exports` is missing, or has distinct names of symbols.
+    /// `exports` is missing, or a list of distinct names like that of the entry.
     Exports,
-    /// `outside` is missing, or has distinct names of symbols.
+    /// `outside` is missing, or a list of distinct names like that of the entry.
     Outside,
     /// There is no other key.
     Other,

@@ -4,8 +4,8 @@ ghost use Rattle.manifest.specs.Manifest.{HasManifest, IsAnswer};
 ghost use Rattle.manifest.specs.declared.fault.Manifest.{Manifest};
 ghost use Rattle.manifest.specs.declared.fault.ManifestFault.{ManifestFault};
 
-/// Does nothing. Its contract is the law that each text has exactly one answer: it has no value, or its value
-/// breaks the rule of a key and of none before it, or it has a manifest, which is the only one.
+/// Does nothing. Its contract is the law that each text has exactly one answer: it has no value, or
+/// its value breaks the rule of a key and of none before it, or it has a manifest, the only one.
 pub fn text_has_one_answer()
     ensures some { (text : List ℕ) → (answer : Result Manifest ManifestFault)
         × IsAnswer text answer }

@@ -52,7 +52,8 @@ fn texts(alloc: Global, items: &[Value]) -> Result<Option<List<Bytes>>, OutOfMem
 }
 
 fn arguments(alloc: Global, items: &[Value]) -> Result<Option<List<Option<i128>>>, OutOfMemory>
-    ensures { IfOk result (λ found. found ≡ reading.each_of reading.argument_of (items_view items.now)) }
+    ensures { IfOk result (λ found. found
+        ≡ reading.each_of reading.argument_of (items_view items.now)) }
 {
     let mut found = List::new(alloc);
     for item in items {
@@ -148,7 +149,8 @@ fn is_manifest_key(key: &str) -> bool
 }
 
 fn has_only_call_keys(call: &Value) -> bool
-    ensures { result ≡ reading.members_pass (reading.is_among call_keys) (as_object (view call.now)) }
+    ensures { result
+        ≡ reading.members_pass (reading.is_among call_keys) (as_object (view call.now)) }
 {
     match call.as_object() {
         Some(members) => members.keys().all(|key| is_call_key(key.as_str())),
@@ -157,7 +159,8 @@ fn has_only_call_keys(call: &Value) -> bool
 }
 
 pub fn has_only_manifest_keys(value: &Value) -> bool
-    ensures { result ≡ reading.members_pass (reading.is_among manifest_keys) (as_object (view value.now)) }
+    ensures { result
+        ≡ reading.members_pass (reading.is_among manifest_keys) (as_object (view value.now)) }
 {
     match value.as_object() {
         Some(members) => members.keys().all(|key| is_manifest_key(key.as_str())),

@@ -254,7 +254,8 @@ fn numbered(alloc: Global, count: u32) -> Result<String, AllocError> {
     Ok(all)
 }
 
-// A manifest with so many modules, the first of so many bytes, and so many arguments and bytes of the entry's name.
+// A manifest with so many modules, the first of so many bytes, and so many arguments and bytes of
+// the name of the entry.
 fn text_of_sizes(
     alloc: Global,
     modules: u32,

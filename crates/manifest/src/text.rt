@@ -43,10 +43,16 @@ fn manifest_of(alloc: Global, value: &Value) -> Result<Manifest, ManifestFault>
     })
 }
 
-/// The manifest of a JSON text.
+/// The manifest that the bytes of a JSON text (RFC 8259) write.
 ///
-/// Besides want of memory there is exactly one answer: the text has no value (`NotJson`), its value breaks a
-/// rule (`BadManifest`, with the first one), or it has a manifest.
+/// Each text has exactly one of three answers, and this gives it, unless memory is wanting
+/// (`OutOfMemory`):
+///
+/// - the bytes are not UTF-8 or write no JSON value: `NotJson`;
+/// - the value breaks a rule: `BadManifest`, with the first that it breaks in the order of `Key`;
+/// - the manifest of the value.
+///
+/// Names are told apart by sorting, so the time stays near the length of the text.
 pub fn read_manifest(alloc: Global, bytes: &[u8]) -> Result<Manifest, ManifestFault>
     ensures manifest { IfOk result (HasManifest bytes.now) }
     ensures not_json { result ≡ Err ManifestFault.NotJson → HasNoValue bytes.now }
