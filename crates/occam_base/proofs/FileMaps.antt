@@ -7,7 +7,7 @@ use Rattle.std.specs.Cmp.{eq_by_cmp_equiv}
 use Rattle.std.specs.Cmp.Lexicographic.{slice_cmp, nat_list_cmp_total}
 use Rattle.std.specs.FinMap as map
 use Rattle.std.specs.FinMap.{find, get-from_entries, get-insert, same_map, from_entries_push, slice_cmp-IsAntisymmetric, nat_cmp-IsAntisymmetric}
-use Rattle.occam_base.specs.Files.{FileMap, file_of, Fills, ReadGives}
+use Rattle.occam_base.specs.Files.{file_of, Fills, ReadGives}
 use Rattle.occam_base.specs.declared.shelf.Read.TheVariants.{Got, Absent}
 use Rattle.occam_base.specs.Entries.{map_of, IsFirstAt, IsMissing}
 

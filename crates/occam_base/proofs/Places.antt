@@ -1,5 +1,5 @@
 -- Places of names, one entry on.
-use Rattle.std.proofs.Common.{◌≡◌, ◌≢◌, ℕ, zero, suc, ◌+◌, ◌<◌, List, [], ◌∷◌, length, drop, sym, subst, arith, get_or, slice_get, Some, drop-cons, add-one}
+use Rattle.std.proofs.Common.{◌≡◌, ◌≢◌, ℕ, zero, suc, ◌+◌, ◌<◌, List, [], ◌∷◌, length, drop, subst, arith, get_or, drop-cons, add-one}
 use Rattle.occam_base.specs.Entries.{IsFirstAt, IsMissing, HasDistinctNames}
 
 -- what holds of the entries from a place on holds of all of them

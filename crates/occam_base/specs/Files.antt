@@ -1,9 +1,8 @@
 -- What a shelf holds: a finite map from names to bytes, where it tells.
-use Rattle.std.specs.Prelude.{◌≡◌, ◌≢◌, ℕ, ◌-◌, ◌≤◌, ◌<◌, Bool, List, length, take, drop, Option, Some, None, Result, Ok, Err, ◌⊎◌}
+use Rattle.std.specs.Prelude.{◌≡◌, ◌≢◌, ℕ, ◌-◌, ◌≤◌, ◌<◌, List, length, take, drop, Option, Some, None, Result, Ok, Err}
 use Rattle.std.specs.Ordering.{nat_cmp}
 use Rattle.std.specs.Cmp.Lexicographic.{slice_cmp}
 use Rattle.std.specs.FinMap as map
-use Rattle.occam_base.specs.declared.fault.Failed.{Failed}
 use Rattle.occam_base.specs.declared.fault.Fault.{Fault}
 use Rattle.occam_base.specs.declared.fault.Fault.TheVariants as fault
 use Rattle.occam_base.specs.declared.shelf.Read.{Read}

@@ -13,6 +13,8 @@ mod mem_source;
 mod shelf;
 mod standard;
 mod stream;
+#[cfg(test)]
+mod tests;
 
 pub use code::Code;
 pub use dir_shelf::DirShelf;

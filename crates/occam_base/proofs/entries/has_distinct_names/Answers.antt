@@ -1,4 +1,4 @@
-use Rattle.std.proofs.Common.{◌<◌, ◌+◌, List, ℕ, length, drop, sym, subst, arith}
+use Rattle.std.proofs.Common.{◌<◌, ◌+◌, length, drop, sym, subst, arith}
 use Rattle.std.proofs.lemmas.List.{take_rest}
 use Rattle.occam_base.specs.Entries.{IsFirstAt}
 use Rattle.occam_base.proofs.Places.{separates_not}

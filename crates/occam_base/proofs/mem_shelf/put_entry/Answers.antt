@@ -1,5 +1,5 @@
-use Rattle.std.proofs.Common.{◌≡◌, ◌∙◌, ap, subst}
-use Rattle.occam_base.specs.Entries.{map_of, IsFirstAt, IsMissing}
+use Rattle.std.proofs.Common.{◌≡◌, subst}
+use Rattle.occam_base.specs.Entries.{IsFirstAt, IsMissing}
 use Rattle.occam_base.proofs.FileMaps.{map_replaced, map_pushed}
 use Rattle.occam_base.proofs.mem_shelf.put_entry.Goals as goal
 
