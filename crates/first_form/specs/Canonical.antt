@@ -1,7 +1,6 @@
 -- The canonical text of a module of the first form. What isn't of the form has no text here.
-use Rattle.std.specs.Prelude.{◌≡◌, ℕ, ◌+◌, suc, Bool, true, false, ◌&&◌, ◌||◌, not, List, [], ◌∷◌, ◌++◌, flat_map, codes, slice_get, unwrap_or, Option, Some, None, if◌then◌else◌}
+use Rattle.std.specs.Prelude.{ℕ, suc, List, [], ◌∷◌, ◌++◌, flat_map, codes, slice_get, unwrap_or, Option, Some, None}
 use Rattle.std.specs.Fmt.{decimal}
-use Rattle.ir_types.specs.declared.scalar.Scalar.{Scalar}
 use Rattle.ir_types.specs.declared.scalar.BinOp.{BinOp}
 use Rattle.ir_types.specs.declared.scalar.BinOp.TheVariants as op
 use Rattle.ir_syntax.specs.declared.constant.Const.{Const}

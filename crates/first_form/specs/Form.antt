@@ -1,5 +1,5 @@
 -- Which text is of the first form.
-use Rattle.std.specs.Prelude.{◌≡◌, ℕ, ◌≤◌, suc, Bool, true, false, ◌&&◌, ◌||◌, not, nat_lt, is_none, bytes_eq, IsTrue, List, [], ◌∷◌, length, map, Option, Some, None}
+use Rattle.std.specs.Prelude.{◌≡◌, ℕ, ◌≤◌, Bool, true, false, ◌&&◌, ◌||◌, not, is_none, bytes_eq, IsTrue, List, [], ◌∷◌, length, map, Some}
 use Rattle.std.specs.List.{list_all, list_any}
 use Rattle.ir_syntax.specs.declared.item.Module.{Module}
 use Rattle.first_form.specs.declared.surface.Value.{Value}

@@ -1,5 +1,5 @@
 -- What calls reach from a function of a module.
-use Rattle.std.specs.Prelude.{◌≡◌, ℕ, ◌<◌, Bool, true, List, [], flat_map, slice_get, Contains, Option, Some, None}
+use Rattle.std.specs.Prelude.{◌≡◌, ℕ, Bool, true, List, [], flat_map, slice_get, Contains, Option, Some, None}
 use Rattle.std.specs.List.{filter_map}
 use Rattle.ir_syntax.specs.declared.constant.Const.{Const}
 use Rattle.ir_syntax.specs.declared.constant.Const.TheVariants as const

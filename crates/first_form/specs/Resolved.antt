@@ -1,22 +1,17 @@
 -- The module that definitions of the first form stand for: names become places, and digits numbers.
-use Rattle.std.specs.Prelude.{◌≡◌, ℕ, ◌+◌, ◌<◌, Bool, true, false, ◌&&◌, not, nat_lt, pos, List, [], ◌∷◌, ◌++◌, length, map, Option, Some, None, option_map, option_and_then, if◌then◌else◌}
+use Rattle.std.specs.Prelude.{ℕ, Bool, true, false, ◌&&◌, not, nat_lt, pos, List, [], ◌∷◌, ◌++◌, length, map, Option, Some, None, option_map, option_and_then, if◌then◌else◌}
 use Rattle.std.specs.List.{list_all}
 use Rattle.ir_types.specs.declared.scalar.Scalar.TheVariants.{I32}
 use Rattle.ir_types.specs.declared.scalar.Ext.TheVariants.{Plain}
 use Rattle.ir_types.specs.declared.scalar.BinOp.TheVariants as op
 use Rattle.ir_types.specs.declared.scalar.Flags.{Flags}
-use Rattle.ir_types.specs.declared.scalar.FnType.{FnType}
-use Rattle.ir_syntax.specs.declared.constant.Const.{Const}
 use Rattle.ir_syntax.specs.declared.constant.Const.TheVariants as const
 use Rattle.ir_syntax.specs.declared.constant.Operand.{Operand}
 use Rattle.ir_syntax.specs.declared.constant.Operand.TheVariants as operand
 use Rattle.ir_syntax.specs.declared.body.Inst.{Inst}
 use Rattle.ir_syntax.specs.declared.body.Inst.TheVariants as inst
-use Rattle.ir_syntax.specs.declared.body.Term.{Term}
 use Rattle.ir_syntax.specs.declared.body.Term.TheVariants as term
-use Rattle.ir_syntax.specs.declared.body.Block.{Block}
 use Rattle.ir_syntax.specs.declared.body.Body.{Body}
-use Rattle.ir_syntax.specs.declared.item.Func.{Func}
 use Rattle.ir_syntax.specs.declared.item.Item.{Item}
 use Rattle.ir_syntax.specs.declared.item.Item.TheVariants as item
 use Rattle.ir_syntax.specs.declared.item.Linkage.TheVariants.{External, Internal}
@@ -73,7 +68,7 @@ abbrev pub body_of : List (List ℕ) → Entity → Option Body
 body_of functions e =
     if is_label_for e.label (map name_of e.lines) && nat_lt (length e.lines) 1048576
     then option_and_then (λ insts. option_map (λ result. record { blocks = record { phis = []; insts = insts; term = term.Ret I32 result } ∷ [] })
-        (operand_of (map name_of e.lines) e.result)) (insts_of functions [] e.lines)
+    (operand_of (map name_of e.lines) e.result)) (insts_of functions [] e.lines)
     else None
 
 abbrev pub func_of : List (List ℕ) → Entity → Option Item

@@ -1,6 +1,5 @@
 -- What is left of a module: the functions that calls reach from the entry, in the order of the text.
 use Rattle.std.specs.Prelude.{◌≡◌, ℕ, ◌<◌, ◌+◌, ◌↔◌, Bool, true, false, List, [], ◌∷◌, length, map, take, count_by, sum_by, slice_get, Contains, Option, Some, None, option_map}
-use Rattle.ir_types.specs.declared.bytes.Bytes.{Bytes}
 use Rattle.ir_syntax.specs.declared.constant.Const.{Const}
 use Rattle.ir_syntax.specs.declared.constant.Const.TheVariants as const
 use Rattle.ir_syntax.specs.declared.constant.Operand.{Operand}

@@ -3,8 +3,6 @@ ghost use Rattle.std.specs.Prelude.{◌≡◌};
 
 use ir_types::OutOfMemory;
 use std::alloc::AllocFailed;
-use std::error::Error;
-use std::fmt;
 
 /// Why the needed rows weren't given: more than 65,536 of them, or at most so many whose sizes add to more than
 /// 8,388,608. Want of memory may come at any time.
@@ -14,18 +12,6 @@ pub enum FixFault {
     TooMuchCode,
     OutOfMemory,
 }
-
-impl fmt::Display for FixFault {
-    fn fmt<W: fmt::Write>(&self, f: &mut fmt::Formatter<W>) -> fmt::Result {
-        match self {
-            FixFault::TooManyDemands => write!(f, "more than 65536 demands"),
-            FixFault::TooMuchCode => write!(f, "more than 8388608 instructions"),
-            FixFault::OutOfMemory => write!(f, "out of memory"),
-        }
-    }
-}
-
-impl Error for FixFault {}
 
 impl From<OutOfMemory> for FixFault {
     ghost use Rattle.fixed_point.specs.declared.fault.FixFault.{FixFault};

@@ -62,3 +62,22 @@ impl Names {
         Ok(true)
     }
 }
+
+#[cfg(test)]
+mod tests {
+    use super::*;
+    use std::test::Fail;
+
+    #[test]
+    fn places(rt: HostRuntime) -> Result<(), Fail> {
+        let alloc = rt.alloc();
+        let mut names = Names::new(alloc);
+        assert!(rt; names.add(alloc, b"main")?);
+        assert!(rt; names.add(alloc, b"two")?);
+        assert!(rt; !names.add(alloc, b"main")?);
+        assert_eq!(rt; names.len(), 2);
+        assert_eq!(rt; names.place_of(b"two"), Some(1));
+        assert_eq!(rt; names.place_of(b"gone"), None);
+        Ok(())
+    }
+}

@@ -10,7 +10,8 @@ returns-then-contains-clause-ok c =
 
 pub returns-clause-ok : goal.returns-clause-ok
 returns-clause-ok c =
-    let absent : list_any (λ v. bytes_eq c.args.name.now v.items) c.self.inside.names.keys ≡ false = sym c.contains.ensures ∙ c.if-contains.false in
-    (sym (ap (is_among c.args.name.now) c.self.view_is) ∙ is_among-map c.args.name.now (λ v. v.items) c.self.inside.names.keys ∙ absent,
-     names_after (λ v. v.items) c.args.name.now c.self.inside.names.keys c.insert.new.self.keys c.in_ok-owned.owned c.in_ok-owned.ensures.items absent c.in_ok-insert.ensures.keys
-     ∙ ap (λ names. names ++ c.args.name.now ∷ []) c.self.view_is)
+    let absent : list_any (λ v. bytes_eq c.args.name.now v.items) c.self.inside.names.keys ≡ false = sym c.contains.ensures ∙ c.if-contains.false in (
+      sym (ap (is_among c.args.name.now) c.self.view_is) ∙ is_among-map c.args.name.now (λ v. v.items) c.self.inside.names.keys ∙ absent,
+      names_after (λ v. v.items) c.args.name.now c.self.inside.names.keys c.insert.new.self.keys c.in_ok-owned.owned c.in_ok-owned.ensures.items absent c.in_ok-insert.ensures.keys
+          ∙ ap (λ names. names ++ c.args.name.now ∷ []) c.self.view_is,
+    )
