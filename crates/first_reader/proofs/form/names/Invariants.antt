@@ -1,0 +1,10 @@
+-- the names so far
+use Rattle.std.proofs.Common.{◌≡◌, true, take}
+use Rattle.first_reader.specs.Forms.{function_names, are_names}
+use Rattle.first_reader.proofs.form.names.Given as goal
+
+abbrev pub invariant-loop-entity : goal.invariant-loop-entity
+invariant-loop-entity l = record {
+  names : l.names ≡ function_names (take l.entity-index l.entities);
+  well : are_names (function_names (take l.entity-index l.entities)) ≡ true;
+}

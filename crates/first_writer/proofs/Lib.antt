@@ -1,0 +1,10 @@
+pub mod Moved
+pub mod Plans
+pub mod Found
+pub mod Left
+pub mod Digits
+pub mod Resolves
+pub mod Parts
+pub mod Readable
+pub mod Keeps
+pub mod OneSpelling
