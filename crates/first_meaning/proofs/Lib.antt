@@ -1,0 +1,10 @@
+mod Agreeing
+mod Counting
+mod Kept
+mod Moved
+mod Options
+mod Places
+mod Ready
+mod Resolves
+mod Running
+mod WorkedRow
