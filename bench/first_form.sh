@@ -1,0 +1,34 @@
+#!/usr/bin/env bash
+# Generates modules of the first form of about 1, 4 and 16 MiB, winnows each, and prints time and peak memory.
+# Two shapes: one call chain of many functions, and one function of many additions.
+set -eu
+top=$(cd "$(dirname "$0")/.." && pwd)
+work=$(mktemp -d)
+trap 'rm -rf "$work"' EXIT
+(cd "$work" && "$top/occam" >/dev/null 2>&1) || true
+
+chain() { # functions
+  awk -v n="$1" 'BEGIN {
+    print "define i32 @main() {\n  %r = call i32 @f1()\n  ret i32 %r\n}"
+    for (i = 1; i < n; i++) printf "define internal i32 @f%d() {\n  %%r = call i32 @f%d()\n  %%s = add i32 %%r, %d\n  ret i32 %%s\n}\n", i, i + 1, i
+    printf "define internal i32 @f%d() {\n  ret i32 1\n}\n", n
+  }'
+}
+adds() { # additions
+  awk -v n="$1" 'BEGIN {
+    print "define internal i32 @one() {\n  ret i32 1\n}" > "/dev/null"
+    print "define i32 @main() {\n  %x0 = call i32 @one()"
+    for (i = 1; i <= n; i++) printf "  %%x%d = add i32 %%x%d, %d\n", i, i - 1, i
+    printf "  ret i32 %%x%d\n}\ndefine internal i32 @one() {\n  ret i32 1\n}\n", n
+  }'
+}
+run() { # shape size
+  printf '{"version":1,"modules":["a.ll"],"entry":{"name":"main","args":[]}}\n' >"$work/m.json"
+  "$1" "$2" >"$work/a.ll"
+  bytes=$(wc -c <"$work/a.ll")
+  ( cd "$work" && rm -rf out
+    /usr/bin/time -f '%e s, %M KiB' "$top/occam" winnow m.json out 2>"$work/time" >"$work/line" || true )
+  printf '%-6s %9d  %9d bytes: %s  %s\n' "$1" "$2" "$bytes" "$(tail -n 1 "$work/time")" "$(cut -c1-60 "$work/line")"
+}
+for n in 13000 52000 200000; do run chain "$n"; done
+for n in 34000 130000 500000; do run adds "$n"; done

@@ -1,0 +1,7 @@
+pub mod Endings
+pub mod KeptPrograms
+pub mod Outcomes
+pub mod Plans
+pub mod Printed
+pub mod Refusals
+pub mod WholeFiles

@@ -1,0 +1,10 @@
+pub mod Keeping
+pub mod Lines
+pub mod Manifests
+pub mod Outcome
+pub mod Printing
+pub mod Program
+pub mod Reading
+pub mod Steps
+pub mod Winnowings
+pub mod Words

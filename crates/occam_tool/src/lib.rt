@@ -1,0 +1,21 @@
+//! The top call of OCCAM: words in, files and one line out.
+#![tactic(auto)]
+
+mod job;
+mod left;
+mod line;
+mod path;
+mod plan;
+mod print;
+mod reading;
+mod refusing;
+mod telling;
+#[cfg(test)]
+mod tests;
+mod top;
+mod winnowing;
+mod words;
+
+pub use job::{Detail, Job, Refusal, Report};
+pub use top::tool;
+pub use winnowing::winnow;

@@ -1,0 +1,80 @@
+//! Reading the manifest: which module, and which entry.
+ghost use Rattle.std.specs.Prelude.{◌≡◌, ◌≤◌, length, IsUtf8, IfOk, IfSome, MatchOption};
+ghost use Rattle.occam_tool.specs.Steps.{PlanGives, ReadsAlone, code_of, CanStop};
+ghost use Rattle.occam_tool.specs.Manifests.{PlanOf, IsFirst, IsNoFirst};
+
+use crate::Refusal;
+use crate::path::as_text;
+use crate::reading::{Stop, read_whole};
+use crate::refusing::{not_of_form, of_file, out_of_memory};
+use ir_types::{Bytes, OutOfMemory};
+use manifest::{Manifest, ManifestFault, read_manifest};
+use occam_base::{Code, Shelf};
+use std::alloc::Global;
+
+const MANIFEST_LIMIT: usize = 1_048_576;
+
+/// What a manifest of the first form says.
+#[derive(Debug, Drop)]
+pub struct Plan {
+    pub file: Bytes,
+    pub entry: Bytes,
+}
+
+/// Reads the manifest's file.
+pub fn read_plan<S: Shelf>(alloc: Global, shelf: &mut S, manifest: &Bytes) -> Result<Plan, Refusal>
+    requires { IsUtf8 manifest.now }
+    ensures gives { PlanGives (S.files shelf.old) manifest.now result }
+    ensures codes { CanStop (code_of result) }
+    ensures alone { ReadsAlone (code_of result) (S.files shelf.old) (S.files shelf.new) (S.read_faults shelf.old) (S.read_faults shelf.new) (S.put_faults shelf.old) (S.put_faults shelf.new) }
+    ensures text { IfOk result (λ plan. IsUtf8 plan.file) }
+{
+    let name = manifest.as_slice();
+    let text = match read_whole(alloc, shelf, as_text(name), MANIFEST_LIMIT) {
+        Ok(text) => text,
+        Err(Stop::Failed) => return Err(of_file(alloc, Code::ReadFault, name)),
+        Err(Stop::Absent) => return Err(of_file(alloc, Code::Absent, name)),
+        Err(Stop::TooLarge) => return Err(not_of_form(alloc, name)),
+        Err(Stop::OutOfMemory) => return Err(out_of_memory()),
+    };
+    match plan_of(alloc, text.as_slice()) {
+        Ok(Some(plan)) => Ok(plan),
+        Ok(None) => Err(not_of_form(alloc, name)),
+        Err(OutOfMemory) => Err(out_of_memory()),
+    }
+}
+
+// The plan of a text, where it is a manifest of the first form.
+fn plan_of(alloc: Global, text: &[u8]) -> Result<Option<Plan>, OutOfMemory>
+    requires { length text.now ≤ 1048576 }
+    ensures plan { IfOk result (PlanOf text.now) }
+    ensures text { IfOk result (λ plan. IfSome plan (λ p. IsUtf8 p.file)) }
+{
+    match read_manifest(alloc, text) {
+        Ok(manifest) => Ok(first_plan(manifest)),
+        Err(ManifestFault::NotJson) => Ok(None),
+        Err(ManifestFault::BadManifest { key: _ }) => Ok(None),
+        Err(ManifestFault::OutOfMemory) => Err(OutOfMemory),
+    }
+}
+
+// The plan of a manifest with one module and nothing besides an entry without arguments.
+fn first_plan(manifest: Manifest) -> Option<Plan>
+    ensures { MatchOption result (IsNoFirst manifest) (λ p. IsFirst manifest p.file p.entry) }
+{
+    let Manifest {
+        mut modules,
+        entry,
+        args,
+        exports,
+        outside,
+    } = manifest;
+    let bare = args.is_empty() && exports.is_empty() && outside.is_empty();
+    if !bare || modules.len() != 1 {
+        return None;
+    }
+    match modules.pop() {
+        Some(file) => Some(Plan { file, entry }),
+        None => None,
+    }
+}

@@ -1,0 +1,44 @@
+//! Refusals over one file.
+ghost use Rattle.std.specs.Prelude.{◌≡◌, ◌⊎◌};
+ghost use Rattle.occam_tool.specs.Outcome.{refusal};
+
+use crate::{Detail, Refusal};
+use ir_types::Bytes;
+use occam_base::Code;
+use std::alloc::Global;
+
+/// The refusal of want of memory.
+pub fn out_of_memory() -> Refusal
+    ensures { result ≡ refusal Code.OutOfMemory Detail.Nothing }
+{
+    Refusal {
+        code: Code::OutOfMemory,
+        detail: Detail::Nothing,
+    }
+}
+
+/// A refusal that names a file, or want of memory.
+pub fn of_file(alloc: Global, code: Code, file: &[u8]) -> Refusal
+    ensures { (result ≡ refusal code (Detail.File file.now)) ⊎ (result ≡ refusal Code.OutOfMemory Detail.Nothing) }
+{
+    match Bytes::from_slice(alloc, file) {
+        Ok(file) => Refusal {
+            code,
+            detail: Detail::File(file),
+        },
+        Err(_) => out_of_memory(),
+    }
+}
+
+/// The refusal of a file that isn't of the form, or want of memory.
+pub fn not_of_form(alloc: Global, file: &[u8]) -> Refusal
+    ensures { (result ≡ refusal Code.NotInSubset (Detail.At file.now 0)) ⊎ (result ≡ refusal Code.OutOfMemory Detail.Nothing) }
+{
+    match Bytes::from_slice(alloc, file) {
+        Ok(file) => Refusal {
+            code: Code::NotInSubset,
+            detail: Detail::At(file, 0),
+        },
+        Err(_) => out_of_memory(),
+    }
+}

@@ -1,0 +1,55 @@
+//! Printing the line that tells how a command ended.
+ghost use Rattle.std.specs.Prelude.{◌≡◌, ◌≢◌, ◌⊎◌};
+ghost use Rattle.occam_base.specs.Counts.{Rose};
+ghost use Rattle.occam_tool.specs.Lines.{report_line as line_of_report, refusal_line as line_of_refusal};
+ghost use Rattle.occam_tool.specs.Program.{TakesLine};
+
+use crate::line::{refusal_line, report_line};
+use crate::print::print_text;
+use crate::{Refusal, Report};
+use ir_types::OutOfMemory;
+use occam_base::{Code, Fault, Sink};
+use std::alloc::Global;
+
+/// Prints the line of a refusal, once. Its status stands where that print fails; where it wants memory, the
+/// status is `OutOfMemory`.
+pub fn refuse<O: Sink>(alloc: Global, out: &mut O, refusal: &Refusal) -> Code
+    ensures code { (result ≡ refusal.now.code) ⊎ (result ≡ Code.OutOfMemory) }
+    ensures taken { result ≢ Code.OutOfMemory → (Rose (O.faults out.old) (O.faults out.new) → ⊥)
+        → TakesLine (O.taken out.old) (O.taken out.new) (line_of_refusal refusal.now) }
+{
+    let line = match refusal_line(alloc, refusal) {
+        Ok(line) => line,
+        Err(OutOfMemory) => return refuse_memory(out),
+    };
+    match print_text(out, line.as_slice()) {
+        Ok(()) => refusal.code,
+        Err(Fault::Failed) => refusal.code,
+        Err(Fault::OutOfMemory) => Code::OutOfMemory,
+    }
+}
+
+/// Prints the line of a report.
+pub fn report_done<O: Sink>(alloc: Global, out: &mut O, report: &Report) -> Code
+    ensures code { (result ≡ Code.Done) ⊎ ((result ≡ Code.OutOfMemory) ⊎ (result ≡ Code.PrintFault)) }
+    ensures taken { result ≡ Code.Done → TakesLine (O.taken out.old) (O.taken out.new) (line_of_report report.now) }
+    ensures failed { result ≡ Code.PrintFault → Rose (O.faults out.old) (O.faults out.new) }
+{
+    let line = match report_line(alloc, report) {
+        Ok(line) => line,
+        Err(OutOfMemory) => return refuse_memory(out),
+    };
+    match print_text(out, line.as_slice()) {
+        Ok(()) => Code::Done,
+        Err(Fault::Failed) => Code::PrintFault,
+        Err(Fault::OutOfMemory) => refuse_memory(out),
+    }
+}
+
+// The line of want of memory takes none.
+fn refuse_memory<O: Sink>(out: &mut O) -> Code
+    ensures { result ≡ Code.OutOfMemory }
+{
+    let _ = print_text(out, b"refused memory\n");
+    Code::OutOfMemory
+}

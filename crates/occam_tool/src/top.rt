@@ -1,0 +1,122 @@
+//! The top call.
+ghost use Rattle.std.specs.Prelude.{◌≡◌, ◌≢◌, ◌⊎◌, ◌≤◌, false, None, Some, map, string_bytes, IfSome, IfOk, IsUtf8};
+ghost use Rattle.occam_base.specs.Counts.{Rose};
+ghost use Rattle.occam_tool.specs.Words.{command_of as command_of_words};
+ghost use Rattle.occam_tool.specs.Outcome.{is_free};
+ghost use Rattle.occam_tool.specs.Program.{Ends, CanExit, TakesRefusal};
+ghost use Rattle.occam_tool.specs.Winnowings.{WinnowEnds};
+ghost use Rattle.occam_tool.specs.Keeping.{Keeps};
+
+use crate::refusing::out_of_memory;
+use crate::telling::{refuse, report_done};
+use crate::winnowing::winnow;
+use crate::words::{Command, command_of};
+use crate::{Detail, Job, Refusal};
+use first_meaning::{meaning_is_kept, run_goes_on};
+use first_writer::{spelling_is_one, what_is_left_keeps_the_form};
+use ir_types::{Bytes, OutOfMemory};
+use occam_base::{Code, Gate, Shelf, Sink, Source};
+use std::alloc::Global;
+use std::thread::Threads;
+
+/// Does what the words of the command line ask for, and prints one line to the sink.
+///
+/// `winnow MANIFEST OUTDIR` winnows the program of the manifest. Every other list of words is `Usage`. The
+/// program's own name isn't among the words. `OutOfMemory` may come anywhere; every other status has its cause
+/// in a clause.
+pub fn tool<R: Threads + Sync, S: Shelf, I: Source, O: Sink, G: Gate>(
+    rt: &R,
+    alloc: Global,
+    words: &[String],
+    shelf: &mut S,
+    _input: &mut I,
+    out: &mut O,
+    gate: &G,
+) -> Code
+    // Usage comes exactly where the words are no command.
+    ensures usage_only { result ≡ Code.Usage → command_of_words (map (λ w. string_bytes w) words.now) ≡ None }
+    ensures usage { command_of_words (map (λ w. string_bytes w) words.now) ≡ None → (result ≡ Code.Usage) ⊎ (result ≡ Code.OutOfMemory) }
+    ensures statuses { CanExit result }
+
+    // Where the shelf tells its files, a status other than want of memory and a fault is that of the outcome of
+    // the words over the files at entry, and so are the files at exit and the line.
+    ensures outcome { is_free result ≡ false → IfSome (S.files shelf.old) (λ files.
+        Ends (map (λ w. string_bytes w) words.now) files (S.files shelf.new) (O.taken out.old) (O.taken out.new) (O.faults out.old) (O.faults out.new) result) }
+
+    // On Done the written text spells one module, which keeps the form, and means what the original means.
+    ensures kept { result ≡ Code.Done → IfSome (S.files shelf.old) (λ files.
+        Keeps (map (λ w. string_bytes w) words.now) files (S.files shelf.new)) }
+
+    // A fault is answered only where its count rose.
+    ensures read_fault { result ≡ Code.ReadFault → Rose (S.read_faults shelf.old) (S.read_faults shelf.new) }
+    ensures write_fault { result ≡ Code.WriteFault → Rose (S.put_faults shelf.old) (S.put_faults shelf.new) }
+    ensures print_fault { result ≡ Code.PrintFault → Rose (O.faults out.old) (O.faults out.new) }
+
+    // No file changes with a refusal but that of a write.
+    ensures unchanged { result ≢ Code.Done → result ≢ Code.WriteFault → result ≢ Code.PrintFault → result ≢ Code.OutOfMemory
+        → S.files shelf.new ≡ S.files shelf.old }
+    // A refusal's line is taken, unless its print failed.
+    ensures refusal { result ≢ Code.Done → result ≢ Code.PrintFault → result ≢ Code.OutOfMemory → (Rose (O.faults out.old) (O.faults out.new) → ⊥)
+        → TakesRefusal (O.taken out.old) (O.taken out.new) result }
+{
+    // The laws that the clause `kept` rests on; they run no code.
+    spelling_is_one();
+    what_is_left_keeps_the_form();
+    meaning_is_kept();
+    run_goes_on();
+    match command_of(words) {
+        Some(command) => run_winnow(rt, alloc, command, shelf, out, gate),
+        None => refuse(
+            alloc,
+            out,
+            &Refusal {
+                code: Code::Usage,
+                detail: Detail::Nothing,
+            },
+        ),
+    }
+}
+
+// Winnows, and prints the answer's line.
+fn run_winnow<R: Threads + Sync, S: Shelf, O: Sink, G: Gate>(
+    rt: &R,
+    alloc: Global,
+    command: Command<'_>,
+    shelf: &mut S,
+    out: &mut O,
+    gate: &G,
+) -> Code
+    ensures not_usage { result ≢ Code.Usage }
+    ensures statuses { CanExit result }
+    ensures outcome { is_free result ≡ false → IfSome (S.files shelf.old) (λ files.
+        WinnowEnds files (S.files shelf.new) command.entry.manifest.now command.entry.outdir.now (O.taken out.old) (O.taken out.new) (O.faults out.old) (O.faults out.new) result) }
+    ensures read_fault { result ≡ Code.ReadFault → Rose (S.read_faults shelf.old) (S.read_faults shelf.new) }
+    ensures write_fault { result ≡ Code.WriteFault → Rose (S.put_faults shelf.old) (S.put_faults shelf.new) }
+    ensures print_fault { result ≡ Code.PrintFault → Rose (O.faults out.old) (O.faults out.new) }
+    ensures unchanged { result ≢ Code.Done → result ≢ Code.WriteFault → result ≢ Code.PrintFault → result ≢ Code.OutOfMemory
+        → S.files shelf.new ≡ S.files shelf.old }
+    ensures refusal { result ≢ Code.Done → result ≢ Code.PrintFault → result ≢ Code.OutOfMemory → (Rose (O.faults out.old) (O.faults out.new) → ⊥)
+        → TakesRefusal (O.taken out.old) (O.taken out.new) result }
+{
+    let job = match job_of(alloc, command) {
+        Ok(job) => job,
+        Err(OutOfMemory) => return refuse(alloc, out, &out_of_memory()),
+    };
+    match winnow(rt, alloc, &job, shelf, gate) {
+        Ok(report) => report_done(alloc, out, &report),
+        Err(refusal) => refuse(alloc, out, &refusal),
+    }
+}
+
+// The job of a command, on one thread.
+fn job_of(alloc: Global, command: Command<'_>) -> Result<Job, OutOfMemory>
+    ensures { IfOk result (λ job. (job.manifest ≡ command.entry.manifest.now) × (job.outdir ≡ command.entry.outdir.now)) }
+{
+    let manifest = Bytes::from_slice(alloc, command.manifest.as_bytes())?;
+    let outdir = Bytes::from_slice(alloc, command.outdir.as_bytes())?;
+    Ok(Job {
+        manifest,
+        outdir,
+        workers: 1,
+    })
+}
