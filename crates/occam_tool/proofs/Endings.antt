@@ -1,20 +1,18 @@
 -- How the steps of winnowing end, together.
-use Rattle.std.proofs.Common.{◌≡◌, ◌∙◌, ℕ, ◌⊎◌, inl, inr, true, false, List, [], ◌∷◌, Option, Some, None, Result, Ok, Err, refl, sym, ap, subst}
+use Rattle.std.proofs.Common.{◌≡◌, ◌∙◌, ℕ, ◌⊎◌, inl, inr, true, false, List, [], ◌∷◌, Option, Some, None, Ok, Err, refl, sym, ap, subst}
 use Rattle.std.specs.Prelude.{IfSome}
 use Rattle.std.specs.FinMap as map
 use Rattle.occam_base.specs.declared.code.Code.{Code}
 use Rattle.occam_base.specs.declared.code.Code.TheVariants as code
-use Rattle.occam_base.specs.Files.{FileMap, file_of}
+use Rattle.occam_base.specs.Files.{FileMap}
 use Rattle.ir_syntax.specs.declared.item.Module.{Module}
-use Rattle.first_form.specs.Form.{IsFirstForm}
 use Rattle.first_form.specs.Canonical.{module_text}
 use Rattle.occam_tool.specs.declared.job.Refusal.{Refusal}
-use Rattle.occam_tool.specs.declared.job.Report.{Report}
 use Rattle.occam_tool.specs.declared.plan.Plan.{Plan}
 use Rattle.occam_tool.specs.declared.left.Left.{Left}
-use Rattle.occam_tool.specs.Outcome.{is_free, report_of, output_name, NamesModule, RefusesManifest, RefusesModule, Winnows, Leaves, put_all}
+use Rattle.occam_tool.specs.Outcome.{is_free, output_name, Leaves}
 use Rattle.occam_tool.specs.Outcome.Winnows.{ManifestRefused, ModuleRefused, Written}
-use Rattle.occam_tool.specs.Steps.{PlanGives, ModuleGives, PutGives, Put, IsLeftOf, CanStop, CanEnd}
+use Rattle.occam_tool.specs.Steps.{PlanGives, ModuleGives, Put, IsLeftOf, CanStop, CanEnd}
 
 pub can_end : (c : Code) → CanStop (Some c) → CanEnd c
 can_end code.OutOfMemory h = tt

@@ -1,7 +1,6 @@
 -- What winnowing wrote means what it was given.
-use Rattle.std.proofs.Common.{◌≡◌, ◌∙◌, ℕ, ◌≤◌, ◌/◌, ◌⊎◌, inl, inr, List, [], ◌∷◌, Option, Some, None, Result, Ok, Err, refl, sym, ap, subst}
+use Rattle.std.proofs.Common.{◌≡◌, ◌∙◌, ℕ, ◌≤◌, ◌/◌, ◌⊎◌, inl, inr, List, Option, Some, None, Result, Err, sym, ap}
 use Rattle.std.specs.Prelude.{IfSome, IsSome}
-use Rattle.std.specs.FinMap as map
 use Rattle.occam_base.specs.declared.code.Code.{Code}
 use Rattle.occam_base.specs.declared.code.Code.TheVariants as code
 use Rattle.occam_base.specs.Files.{FileMap}

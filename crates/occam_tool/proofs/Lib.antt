@@ -1,5 +1,6 @@
 pub mod Endings
 pub mod KeptPrograms
+pub mod OneOutcome
 pub mod Outcomes
 pub mod Plans
 pub mod Printed

@@ -10,7 +10,7 @@ use Rattle.occam_tool.specs.declared.job.Refusal.{Refusal}
 use Rattle.occam_tool.specs.declared.job.Report.{Report}
 use Rattle.occam_tool.specs.Words.{command_of}
 use Rattle.occam_tool.specs.Lines.{report_line, refusal_line, answer_line}
-use Rattle.occam_tool.specs.Outcome.{is_free, refusal, Leaves, Outputs}
+use Rattle.occam_tool.specs.Outcome.{is_free, refusal, Leaves}
 use Rattle.occam_tool.specs.Program.{Answers, Ends, TakesLine, TakesRefusal}
 use Rattle.occam_tool.specs.Winnowings.{WinnowEnds}
 

@@ -1,5 +1,5 @@
 -- What a manifest's text says of a plan.
-use Rattle.std.proofs.Common.{◌≡◌, ◌∙◌, ℕ, zero, suc, ◌<◌, ◌≤◌, ◌⊎◌, inl, inr, List, [], ◌∷◌, length, Option, Some, None, Result, Ok, Err, IsUtf8, All, codes, slice_index_or, arith, sym, subst, refl}
+use Rattle.std.proofs.Common.{◌≡◌, ℕ, zero, suc, ◌<◌, ◌≤◌, inl, inr, List, [], ◌∷◌, length, Option, Some, None, Result, Ok, IsUtf8, All, codes, slice_index_or, arith, sym, subst}
 use Rattle.std.specs.Prelude.{MatchOption, IfSome}
 use Rattle.std.specs.Str.{IsAscii}
 use Rattle.std.proofs.lemmas.Str.{IsUtf8-from_ascii}
@@ -7,11 +7,10 @@ use Rattle.std.proofs.lemmas.List.Elements.{recursion_from_All}
 use Rattle.std.specs.List.{AllByRecursion}
 use Rattle.manifest.specs.declared.fault.Manifest.{Manifest}
 use Rattle.manifest.specs.declared.fault.ManifestFault.{ManifestFault}
-use Rattle.manifest.specs.declared.fault.ManifestFault.TheVariants.{OutOfMemory}
 use Rattle.manifest.specs.Manifest.{HasManifest, IsOrWantsMemory}
 use Rattle.manifest.specs.Names.{IsModuleByte, IsModuleName}
 use Rattle.occam_tool.specs.declared.plan.Plan.{Plan}
-use Rattle.occam_tool.specs.Manifests.{IsFirst, IsNoFirst, IsFirstManifest, PlanOf}
+use Rattle.occam_tool.specs.Manifests.{IsFirst, IsNoFirst, PlanOf}
 
 same_manifest : (m other : Manifest) → (let answer : Result Manifest ManifestFault = Ok m in IsOrWantsMemory answer (Ok other)) → m ≡ other
 same_manifest m other (inl e) = cc

@@ -1,10 +1,10 @@
 -- A text that is handed over piece by piece.
-use Rattle.std.proofs.Common.{◌≡◌, ◌∙◌, ℕ, ◌+◌, ◌-◌, ◌≤◌, List, [], ◌++◌, length, take, drop, Option, Some, None, Result, Ok, Err, refl, sym, ap, arith, append_assoc, append-nil}
+use Rattle.std.proofs.Common.{◌≡◌, ◌∙◌, ℕ, ◌+◌, ◌-◌, ◌≤◌, List, [], ◌++◌, length, take, drop, Option, Some, None, Ok, Err, refl, sym, ap, arith, append_assoc, append-nil}
 use Rattle.std.proofs.lemmas.List.{length-drop, take_all, drop-drop}
 use Rattle.std.proofs.Math.Seq.{take-add}
 use Rattle.occam_base.specs.declared.fault.Fault.{Fault}
 use Rattle.occam_base.specs.Streams.{SinkOf}
-use Rattle.occam_tool.specs.Printing.{TakesText, PrintOf}
+use Rattle.occam_tool.specs.Printing.{PrintOf}
 
 -- What was taken so far, and then the rest, is the text.
 pub record TookSo (taken more text rest : List ℕ) : Type 0 where

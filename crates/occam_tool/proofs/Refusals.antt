@@ -1,6 +1,5 @@
 -- Why a file is refused.
-use Rattle.std.proofs.Common.{◌≡◌, ◌∙◌, ℕ, ◌<◌, ◌≤◌, ◌⊎◌, inl, inr, true, List, length, Option, Some, None, Result, Ok, Err, refl, sym, ap, subst, arith}
-use Rattle.occam_base.specs.declared.code.Code.{Code}
+use Rattle.std.proofs.Common.{◌≡◌, ◌∙◌, ℕ, ◌<◌, ◌⊎◌, inl, inr, true, List, length, Option, Some, None, Result, Ok, Err, refl, sym, ap, subst, arith}
 use Rattle.occam_base.specs.declared.code.Code.TheVariants as code
 use Rattle.occam_base.specs.Files.{FileMap, file_of}
 use Rattle.ir_syntax.specs.declared.item.Module.{Module}
@@ -10,11 +9,11 @@ use Rattle.occam_tool.specs.declared.job.Refusal.{Refusal}
 use Rattle.occam_tool.specs.declared.plan.Plan.{Plan}
 use Rattle.occam_tool.specs.declared.reading.Stop.{Stop}
 use Rattle.occam_tool.specs.declared.reading.Stop.TheVariants as stop
-use Rattle.occam_tool.specs.Manifests.{IsFirstManifest, PlanOf}
+use Rattle.occam_tool.specs.Manifests.{PlanOf}
 use Rattle.occam_tool.specs.Reading.{WholeGives, WholeOf}
-use Rattle.occam_tool.specs.Outcome.{refusal, is_free, NamesModule, RefusesManifest, RefusesModule}
-use Rattle.occam_tool.specs.Outcome.RefusesManifest.{ManifestAbsent, NotFirstManifest}
-use Rattle.occam_tool.specs.Outcome.RefusesModule.{ModuleAbsent, NotFirstForm}
+use Rattle.occam_tool.specs.Outcome.{refusal, is_free}
+use Rattle.occam_tool.specs.Outcome.RefusesManifest.{NotFirstManifest}
+use Rattle.occam_tool.specs.Outcome.RefusesModule.{NotFirstForm}
 use Rattle.occam_tool.specs.Steps.{PlanGives, ModuleGives}
 
 abbrev OrMemory : Refusal → Refusal → Type 0

@@ -1,9 +1,9 @@
 -- A text that is read piece by piece is a front of the file until no byte comes.
-use Rattle.std.proofs.Common.{◌≡◌, ◌≢◌, ◌∙◌, ℕ, zero, suc, ◌+◌, ◌-◌, ◌<◌, ◌≤◌, List, [], ◌++◌, length, take, drop, Option, Some, None, Result, Ok, Err, refl, sym, ap, subst, arith, append-nil}
-use Rattle.std.proofs.lemmas.List.{length-append, length-take-le, length-drop, take_all}
+use Rattle.std.proofs.Common.{◌≡◌, ◌≢◌, ◌∙◌, ℕ, zero, suc, ◌+◌, ◌<◌, ◌≤◌, List, [], ◌++◌, length, take, drop, Option, Some, None, Ok, Err, refl, sym, ap, subst, arith, append-nil}
+use Rattle.std.proofs.lemmas.List.{length-append, length-take-le, take_all}
 use Rattle.std.proofs.Math.Seq.{take-add}
 use Rattle.occam_base.specs.Files.{FileMap, file_of, Fills, ReadGives, ReadOf}
-use Rattle.occam_base.specs.declared.shelf.Read.TheVariants.{Got, Absent}
+use Rattle.occam_base.specs.declared.shelf.Read.TheVariants.{Got}
 use Rattle.occam_tool.specs.declared.reading.Stop.{Stop}
 use Rattle.occam_tool.specs.declared.reading.Stop.TheVariants as stop
 use Rattle.occam_tool.specs.Reading.{IsFront, WholeGives, WholeOf, PieceGives, PieceOf}

@@ -1,5 +1,5 @@
 -- What winnowing answers and leaves, as a function of the files, and what the program does with its words.
-use Rattle.std.specs.Prelude.{◌≡◌, ℕ, ◌+◌, ◌≤◌, Bool, true, false, IsTrue, List, [], ◌∷◌, ◌++◌, length, Option, Some, None, Result, Ok, Err}
+use Rattle.std.specs.Prelude.{◌≡◌, ℕ, Bool, true, false, List, [], ◌∷◌, ◌++◌, length, Option, Some, None, Result, Ok, Err}
 use Rattle.std.specs.FinMap as map
 use Rattle.occam_base.specs.declared.code.Code.{Code}
 use Rattle.occam_base.specs.declared.code.Code.TheVariants as code

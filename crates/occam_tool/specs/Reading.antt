@@ -1,5 +1,5 @@
 -- Reading a whole file of at most so many bytes.
-use Rattle.std.specs.Prelude.{◌≡◌, ℕ, zero, suc, ◌+◌, ◌<◌, ◌≤◌, List, [], length, take, Option, Some, None, Result, Ok, Err}
+use Rattle.std.specs.Prelude.{◌≡◌, ℕ, zero, suc, ◌<◌, ◌≤◌, List, length, take, Option, Some, None, Result, Ok, Err}
 use Rattle.occam_base.specs.Files.{FileMap, file_of}
 use Rattle.occam_tool.specs.declared.reading.Stop.{Stop}
 use Rattle.occam_tool.specs.declared.reading.Stop.TheVariants as stop

@@ -1,5 +1,5 @@
 -- What the steps of winnowing answer over the files of a shelf, where it tells them.
-use Rattle.std.specs.Prelude.{◌≡◌, ◌≢◌, ◌⊎◌, ℕ, ◌≤◌, true, List, length, Option, Some, None, Result, Ok, Err}
+use Rattle.std.specs.Prelude.{◌≡◌, ◌≢◌, ◌⊎◌, ℕ, ◌≤◌, true, List, Option, Some, None, Result, Ok, Err}
 use Rattle.std.specs.FinMap as map
 use Rattle.occam_base.specs.Counts.{Rose}
 use Rattle.occam_base.specs.declared.code.Code.{Code}
@@ -7,7 +7,7 @@ use Rattle.occam_base.specs.declared.code.Code.TheVariants as code
 use Rattle.occam_base.specs.Files.{FileMap, file_of}
 use Rattle.ir_syntax.specs.declared.item.Module.{Module}
 use Rattle.first_form.specs.Form.{IsFirstForm}
-use Rattle.first_form.specs.Winnowed.{IsWinnowed, instruction_count}
+use Rattle.first_form.specs.Winnowed.{IsWinnowed}
 use Rattle.first_form.specs.Canonical.{module_text}
 use Rattle.occam_tool.specs.declared.job.Refusal.{Refusal}
 use Rattle.occam_tool.specs.declared.plan.Plan.{Plan}

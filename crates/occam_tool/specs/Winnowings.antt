@@ -1,5 +1,5 @@
 -- What a run of `winnow` ends with, before it is seen as the outcome of words.
-use Rattle.std.specs.Prelude.{◌≡◌, ◌⊎◌, ℕ, List, Option, Some, Result}
+use Rattle.std.specs.Prelude.{◌≡◌, ◌⊎◌, ℕ, List, Option, Result}
 use Rattle.occam_base.specs.declared.code.Code.{Code}
 use Rattle.occam_base.specs.declared.code.Code.TheVariants as code
 use Rattle.occam_base.specs.Counts.{Rose}

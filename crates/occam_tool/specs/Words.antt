@@ -1,5 +1,5 @@
 -- The words of the command line.
-use Rattle.std.specs.Prelude.{ℕ, Bool, true, false, ◌&&◌, ◌==◌, not, nat_le, bytes_eq, codes, List, [], ◌∷◌, length, Option, Some, None, if◌then◌else◌}
+use Rattle.std.specs.Prelude.{ℕ, Bool, false, ◌&&◌, ◌==◌, not, nat_le, bytes_eq, codes, List, [], ◌∷◌, length, Option, Some, None, if◌then◌else◌}
 
 -- A word that names a file or a folder: not empty, not beginning with -, of at most 1,024 bytes.
 abbrev pub is_file_word : List ℕ → Bool

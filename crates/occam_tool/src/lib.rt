@@ -2,6 +2,7 @@
 #![tactic(auto)]
 
 mod job;
+mod laws;
 mod left;
 mod line;
 mod path;
@@ -17,5 +18,6 @@ mod winnowing;
 mod words;
 
 pub use job::{Detail, Job, Refusal, Report};
+pub use laws::outcome_is_one;
 pub use top::tool;
 pub use winnowing::winnow;

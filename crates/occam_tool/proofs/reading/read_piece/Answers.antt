@@ -1,4 +1,4 @@
-use Rattle.std.proofs.Common.{◌≡◌, ◌≤◌, ◌<◌, subst, sym, length, arith, refl}
+use Rattle.std.proofs.Common.{subst, length}
 use Rattle.occam_base.specs.Files.{ReadOf}
 use Rattle.occam_base.specs.declared.shelf.Read.{Read}
 use Rattle.occam_base.specs.declared.shelf.Read.TheVariants.{Got}

@@ -1,4 +1,4 @@
-use Rattle.std.proofs.Common.{◌≡◌, ◌∙◌, Option, None, map, string_bytes, sym, ap, option_map}
+use Rattle.std.proofs.Common.{map, string_bytes, sym, ap}
 use Rattle.occam_tool.specs.Outcome.{is_free}
 use Rattle.occam_tool.proofs.Outcomes.{told_command, told_usage, usage_taken}
 use Rattle.occam_tool.proofs.KeptPrograms.{Laws, kept_command, usage_not_done}

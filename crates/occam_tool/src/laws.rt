@@ -1,0 +1,19 @@
+//! A law of the outcome. It is the contract of a function that does nothing.
+ghost use Rattle.std.specs.Prelude.{◌≡◌, ℕ, List};
+ghost use Rattle.occam_base.specs.declared.code.Code.{Code as Status};
+ghost use Rattle.occam_base.specs.Files.{FileMap};
+ghost use Rattle.occam_tool.specs.Outcome.{Outputs};
+ghost use Rattle.occam_tool.specs.Program.{IsOutcome};
+
+use first_writer::spelling_is_one;
+use manifest::text_has_one_answer;
+
+/// The words have one outcome at most over the files: a status, what is put, and a line.
+pub fn outcome_is_one()
+    ensures status { (words : List (List ℕ)) (files : FileMap) (s t : Status) (o p : Outputs) (k l : List ℕ) → IsOutcome words files s o k → IsOutcome words files t p l → s ≡ t }
+    ensures outputs { (words : List (List ℕ)) (files : FileMap) (s t : Status) (o p : Outputs) (k l : List ℕ) → IsOutcome words files s o k → IsOutcome words files t p l → o ≡ p }
+    ensures line { (words : List (List ℕ)) (files : FileMap) (s t : Status) (o p : Outputs) (k l : List ℕ) → IsOutcome words files s o k → IsOutcome words files t p l → k ≡ l }
+{
+    spelling_is_one();
+    text_has_one_answer();
+}
