@@ -1,5 +1,5 @@
 -- From reading functions to the first form, and back.
-use Rattle.std.proofs.Common.{◌≡◌, ◌∙◌, ℕ, ◌-◌, ◌≤◌, ◌<◌, suc, zero, Bool, true, false, cond, ◌&&◌, is_none, List, [], ◌∷◌, ◌++◌, length, map, drop, flat_map, Option, Some, None, option_map, option_and_then, refl, sym, ap, subst, arith}
+use Rattle.std.proofs.Common.{◌≡◌, ◌∙◌, ℕ, ◌-◌, ◌≤◌, suc, zero, Bool, true, false, cond, ◌&&◌, is_none, List, [], ◌∷◌, ◌++◌, length, map, drop, flat_map, Option, Some, None, option_map, option_and_then, refl, sym, ap, subst, arith}
 use Rattle.std.specs.List.{All, list_all}
 use Rattle.ir_lexer.specs.declared.token.Token.{Token}
 use Rattle.ir_lexer.specs.Tokens.{Tokens}
@@ -12,19 +12,11 @@ use Rattle.first_form.specs.Resolved.{module_of}
 use Rattle.first_reader.specs.Readings.{entity_at, entity_len, entities_from}
 use Rattle.first_reader.specs.Forms.{formed, HasNoLabel}
 use Rattle.first_reader.proofs.NameLists.{and_left, and_right, and_both}
-use Rattle.first_reader.proofs.Reading.{entity_len-positive}
+use Rattle.first_reader.proofs.Reading.{entity_len-positive, one-less}
 use Rattle.first_reader.proofs.Spelling.{entity_found, then_some, map_some}
 use Rattle.first_reader.proofs.Written.{AreUnlabelled, entities_again}
 
 -- what was read is spelled, and without labels
-record AreSpelled (ps : List Piece) (es : List Entity) : Type 0 where
-  unlabelled : AreUnlabelled es
-  spelled : ps ≡ flat_map entity_pieces es
-
-less : (p : Piece) (ps : List Piece) (n : ℕ) → 0 < n → drop (n - 1) ps ≡ drop n (p ∷ ps)
-less p ps zero above = absurd (omega arith)
-less p ps (suc n) above = let e : suc n - 1 ≡ n = omega arith in ap (λ k. drop k ps) e
-
 pub entities_found : (k : ℕ) (ps : List Piece) (es : List Entity) → entities_from k ps ≡ Some es → AreUnlabelled es × (drop k ps ≡ flat_map entity_pieces es)
 entities_found zero [] es e = let f : [] ≡ es = cc in (subst AreUnlabelled f tt, ap (flat_map entity_pieces) f)
 entities_found (suc k) [] es e = let f : [] ≡ es = cc in (subst AreUnlabelled f tt, ap (flat_map entity_pieces) f)
@@ -34,7 +26,7 @@ entities_found zero (p ∷ ps) es e =
     let here = entity_found (p ∷ ps) first f in
     let rest = entities_found (entity_len first - 1) ps more h in (
       subst AreUnlabelled i (here.unlabelled, rest.0),
-      here.spelled ∙ ap (λ qs. entity_pieces first ++ qs) (sym (less p ps (entity_len first) (entity_len-positive first)) ∙ rest.1) ∙ ap (flat_map entity_pieces) i,
+      here.spelled ∙ ap (λ qs. entity_pieces first ++ qs) (sym (one-less p ps (entity_len first) (entity_len-positive first)) ∙ rest.1) ∙ ap (flat_map entity_pieces) i,
     )
 entities_found (suc k) (p ∷ ps) es e = entities_found k ps es e
 

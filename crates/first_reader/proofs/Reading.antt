@@ -16,10 +16,6 @@ pub extended-more : {X : Type 0} (xs : List X) (x : X) (o : Option (List X)) →
 extended-more xs x None = refl
 extended-more xs x (Some ys) = ap Some (sym (append_assoc xs (x ∷ []) ys))
 
-pub extended-none : {X : Type 0} (xs : List X) → extended xs (Some []) ≡ Some xs
-extended-none [] = refl
-extended-none (x ∷ xs) = ap (option_map (λ ys. x ∷ ys)) (extended-none xs)
-
 pub lines-skipped : (k : ℕ) (ps : List Piece) → lines_from k ps ≡ lines_from 0 (drop k ps)
 lines-skipped zero ps = refl
 lines-skipped (suc k) [] = refl
@@ -61,7 +57,7 @@ entity_len-positive e = positive e.internal
     positive true = omega arith
     positive false = omega arith
 
-one-less : (p : Piece) (ps : List Piece) (n : ℕ) → 0 < n → drop (n - 1) ps ≡ drop n (p ∷ ps)
+pub one-less : (p : Piece) (ps : List Piece) (n : ℕ) → 0 < n → drop (n - 1) ps ≡ drop n (p ∷ ps)
 one-less p ps zero above = absurd (omega arith)
 one-less p ps (suc n) above = let e : suc n - 1 ≡ n = omega arith in ap (λ k. drop k ps) e
 
@@ -80,17 +76,6 @@ entities_more xs rest at entities e r some here =
     ap (λ ps. extended (entities ++ e ∷ []) (entities_from 0 ps)) (seen-more xs at (entity_len e))
     ∙ sym (extended-more entities e (entities_from 0 (drop (entity_len e) (seen (drop at xs)))))
     ∙ ap (extended entities)
-    (ap (λ o. option_and_then (λ e. option_map (λ es. e ∷ es) (entities_from 0 (drop (entity_len e) (seen (drop at xs))))) o) (here ∙ ap (λ ys. entity_at (seen ys)) r)
-    ∙ sym (entity-step (seen (drop at xs)) (some_too (drop at xs) (sym r))))
-  where
-    some_too : (ys : List Lexeme) → ys ≡ rest → 0 < length (seen ys)
-    some_too ys q = subst (λ zs. 0 < length (seen zs)) (sym q) some
-
--- a definition that can't be read
-pub entities_bad : (xs rest : List Lexeme) (at : ℕ) (entities : List Entity) → rest ≡ drop at xs → 0 < length (seen rest) → None ≡ entity_at (seen rest) →
-    None ≡ extended entities (entities_from 0 (seen (drop at xs)))
-entities_bad xs rest at entities r some here =
-    ap (extended entities)
     (ap (λ o. option_and_then (λ e. option_map (λ es. e ∷ es) (entities_from 0 (drop (entity_len e) (seen (drop at xs))))) o) (here ∙ ap (λ ys. entity_at (seen ys)) r)
     ∙ sym (entity-step (seen (drop at xs)) (some_too (drop at xs) (sym r))))
   where

@@ -3,13 +3,12 @@ use Rattle.std.proofs.Common.{◌≡◌, ◌∙◌, ℕ, ◌+◌, ◌<◌, suc, 
 use Rattle.std.specs.List.{list_all}
 use Rattle.std.proofs.lemmas.List.{map-append}
 use Rattle.ir_syntax.specs.declared.body.Inst.{Inst}
-use Rattle.ir_syntax.specs.declared.item.Item.{Item}
 use Rattle.first_form.specs.declared.surface.Line.{Line}
 use Rattle.first_form.specs.declared.surface.Entity.{Entity}
 use Rattle.name_table.specs.Places.{is_among}
 use Rattle.first_form.specs.Names.{is_plain_name}
 use Rattle.first_form.specs.Form.{keeps_form, are_straight}
-use Rattle.first_form.specs.Resolved.{name_of, inst_of, insts_of, func_of, items_of}
+use Rattle.first_form.specs.Resolved.{name_of, inst_of, insts_of}
 use Rattle.first_reader.specs.Readings.{extended}
 use Rattle.first_reader.specs.Forms.{function_names, step_of}
 use Rattle.first_reader.proofs.Reading.{extended-more}
@@ -48,22 +47,6 @@ bad_inst functions registers lines at line insts within here made =
     (ap (option_and_then (λ j. option_map (λ is. j ∷ is) (insts_of functions (registers ++ name_of line ∷ []) (drop (at + 1) lines)))) made
     ∙ sym (inst-step functions registers line (drop (at + 1) lines))
     ∙ ap (insts_of functions registers) (sym (next lines at line within here)))
-
--- one more function
-pub more_items : (functions : List (List ℕ)) (es : List Entity) (at : ℕ) (e : Entity) (items : List Item) (i : Item) → at < length es → e ≡ get_or es at e → Some i ≡ func_of functions e →
-    extended (items ++ i ∷ []) (items_of functions (drop (at + 1) es)) ≡ extended items (items_of functions (drop at es))
-more_items functions es at e items i within here made =
-    sym (extended-more items i (items_of functions (drop (at + 1) es)))
-    ∙ ap (extended items)
-    (ap (option_and_then (λ j. option_map (λ is. j ∷ is) (items_of functions (drop (at + 1) es)))) made
-    ∙ ap (items_of functions) (sym (next es at e within here)))
-
-pub bad_item : (functions : List (List ℕ)) (es : List Entity) (at : ℕ) (e : Entity) (items : List Item) → at < length es → e ≡ get_or es at e → None ≡ func_of functions e →
-    None ≡ extended items (items_of functions (drop at es))
-bad_item functions es at e items within here made =
-    ap (extended items)
-    (ap (option_and_then (λ j. option_map (λ is. j ∷ is) (items_of functions (drop (at + 1) es)))) made
-    ∙ ap (items_of functions) (sym (next es at e within here)))
 
 names-drop : (k : ℕ) (es : List Entity) → function_names (drop k es) ≡ drop k (function_names es)
 names-drop zero es = refl

@@ -131,12 +131,13 @@ addition_found name (a ∷ comma ∷ b ∷ rest) l e =
     let (n, g, h) = then_some (λ n. option_and_then (λ x. option_map (λ y. Add n x y) (value_of b.0 b.1)) (value_of a.0 a.1)) (local_of name.0 name.1) l f.1 in
     let (x, i, j) = then_some (λ x. option_map (λ y. Add n x y) (value_of b.0 b.1)) (value_of a.0 a.1) l h in
     let (y, k, m) = map_some (λ y. Add n x y) (value_of b.0 b.1) l j in
-    spell name a comma b (local_name n) (value_piece x) (mark 44) (value_piece y) (local_found name n g) (value_found a x i) (mark_found 44 comma f.0) (value_found b y k)
-    ∙ ap (λ l. line_pieces l ++ rest) m
+    spell n x y (local_found name n g) (value_found a x i) (mark_found 44 comma f.0) (value_found b y k) m
   where
-    spell : (p a c b p' a' c' b' : Piece) → p ≡ p' → a ≡ a' → c ≡ c' → b ≡ b' →
-        p ∷ mark 61 ∷ word (codes "add") ∷ word (codes "i32") ∷ a ∷ c ∷ b ∷ rest ≡ p' ∷ mark 61 ∷ word (codes "add") ∷ word (codes "i32") ∷ a' ∷ c' ∷ b' ∷ rest
-    spell p a c b p' a' c' b' e f g h = cc
+    spell : (n : List ℕ) (x y : Value) → name ≡ local_name n → a ≡ value_piece x → comma ≡ mark 44 → b ≡ value_piece y → Add n x y ≡ l →
+        name ∷ mark 61 ∷ word (codes "add") ∷ word (codes "i32") ∷ a ∷ comma ∷ b ∷ rest ≡ line_pieces l ++ rest
+    spell n x y e f g h i =
+        let j : name ∷ mark 61 ∷ word (codes "add") ∷ word (codes "i32") ∷ a ∷ comma ∷ b ∷ rest ≡ local_name n ∷ mark 61 ∷ word (codes "add") ∷ word (codes "i32") ∷ value_piece x ∷ mark 44 ∷ value_piece y ∷ rest = cc in
+        j ∙ ap (λ l. line_pieces l ++ rest) i
 
 call_found : (name : Piece) (ps : List Piece) (l : Line) → call_at name ps ≡ Some l →
     name ∷ mark 61 ∷ word (codes "call") ∷ word (codes "i32") ∷ ps ≡ line_pieces l ++ drop 3 ps
@@ -148,14 +149,15 @@ call_found name (callee ∷ opened ∷ closed ∷ rest) l e =
     let f = if_some (is_mark 40 opened.0 opened.1 && is_mark 41 closed.0 closed.1) (option_and_then (λ n. option_map (λ c. Call n c) (at_of callee.0 callee.1)) (local_of name.0 name.1)) l e in
     let (n, g, h) = then_some (λ n. option_map (λ c. Call n c) (at_of callee.0 callee.1)) (local_of name.0 name.1) l f.1 in
     let (c, i, j) = map_some (λ c. Call n c) (at_of callee.0 callee.1) l h in
-    spell name callee opened closed (local_name n) (at_name c) (mark 40) (mark 41) (local_found name n g) (at_found callee c i)
+    spell n c (local_found name n g) (at_found callee c i)
     (mark_found 40 opened (and_left (is_mark 40 opened.0 opened.1) (is_mark 41 closed.0 closed.1) f.0))
-    (mark_found 41 closed (and_right (is_mark 40 opened.0 opened.1) (is_mark 41 closed.0 closed.1) f.0))
-    ∙ ap (λ l. line_pieces l ++ rest) j
+    (mark_found 41 closed (and_right (is_mark 40 opened.0 opened.1) (is_mark 41 closed.0 closed.1) f.0)) j
   where
-    spell : (p a c b p' a' c' b' : Piece) → p ≡ p' → a ≡ a' → c ≡ c' → b ≡ b' →
-        p ∷ mark 61 ∷ word (codes "call") ∷ word (codes "i32") ∷ a ∷ c ∷ b ∷ rest ≡ p' ∷ mark 61 ∷ word (codes "call") ∷ word (codes "i32") ∷ a' ∷ c' ∷ b' ∷ rest
-    spell p a c b p' a' c' b' e f g h = cc
+    spell : (n c : List ℕ) → name ≡ local_name n → callee ≡ at_name c → opened ≡ mark 40 → closed ≡ mark 41 → Call n c ≡ l →
+        name ∷ mark 61 ∷ word (codes "call") ∷ word (codes "i32") ∷ callee ∷ opened ∷ closed ∷ rest ≡ line_pieces l ++ rest
+    spell n c e f g h i =
+        let j : name ∷ mark 61 ∷ word (codes "call") ∷ word (codes "i32") ∷ callee ∷ opened ∷ closed ∷ rest ≡ local_name n ∷ mark 61 ∷ word (codes "call") ∷ word (codes "i32") ∷ at_name c ∷ mark 40 ∷ mark 41 ∷ rest = cc in
+        j ∙ ap (λ l. line_pieces l ++ rest) i
 
 verb_found : (name : Piece) (ps : List Piece) (l : Line) → verb_at name ps ≡ Some l → name ∷ mark 61 ∷ ps ≡ line_pieces l ++ drop 5 ps
 unfolding verb_by
@@ -246,24 +248,28 @@ head_found internal (a ∷ b ∷ c ∷ d ∷ g ∷ rest) e f =
     let (name, j, k) = then_some (λ n. body_at internal n rest) (at_of b.0 b.1) e i.1 in
     let (lines, result, m, n) = body_found internal name rest e k in
     let three = and_left (is_word (codes "i32") a.0 a.1 && is_mark 40 c.0 c.1 && is_mark 41 d.0 d.1) (is_mark 123 g.0 g.1) i.0 in
-    let two = and_left (is_word (codes "i32") a.0 a.1 && is_mark 40 c.0 c.1) (is_mark 41 d.0 d.1) three in
-    let o : suc (suc (suc (suc (suc (7 * length lines + 4))))) ≡ 7 * length lines + 9 = omega arith in (
+    let two = and_left (is_word (codes "i32") a.0 a.1 && is_mark 40 c.0 c.1) (is_mark 41 d.0 d.1) three in (
       name,
       lines,
       result,
       m,
-      spell a b c d g (word (codes "i32")) (at_name name) (mark 40) (mark 41) (mark 123)
+      spell name lines result
           (word_found (codes "i32") a (and_left (is_word (codes "i32") a.0 a.1) (is_mark 40 c.0 c.1) two))
           (at_found b name j)
           (mark_found 40 c (and_right (is_word (codes "i32") a.0 a.1) (is_mark 40 c.0 c.1) two))
           (mark_found 41 d (and_right (is_word (codes "i32") a.0 a.1 && is_mark 40 c.0 c.1) (is_mark 41 d.0 d.1) three))
           (mark_found 123 g (and_right (is_word (codes "i32") a.0 a.1 && is_mark 40 c.0 c.1 && is_mark 41 d.0 d.1) (is_mark 123 g.0 g.1) i.0))
-          ∙ ap (λ qs. head_pieces name ++ qs) n
-          ∙ ap (λ k. (head_pieces name ++ (flat_map line_pieces lines ++ end_pieces result)) ++ drop k (a ∷ b ∷ c ∷ d ∷ g ∷ rest)) o,
+          n,
     )
   where
-    spell : (a b c d e a' b' c' d' e' : Piece) → a ≡ a' → b ≡ b' → c ≡ c' → d ≡ d' → e ≡ e' → a ∷ b ∷ c ∷ d ∷ e ∷ rest ≡ a' ∷ b' ∷ c' ∷ d' ∷ e' ∷ rest
-    spell a b c d e a' b' c' d' e' f g h i j = cc
+    spell : (name : List ℕ) (lines : List Line) (result : Value) → a ≡ word (codes "i32") → b ≡ at_name name → c ≡ mark 40 → d ≡ mark 41 → g ≡ mark 123 →
+        rest ≡ (flat_map line_pieces lines ++ end_pieces result) ++ drop (7 * length lines + 4) rest →
+        a ∷ b ∷ c ∷ d ∷ g ∷ rest ≡ (head_pieces name ++ (flat_map line_pieces lines ++ end_pieces result)) ++ drop (7 * length lines + 9) (a ∷ b ∷ c ∷ d ∷ g ∷ rest)
+    spell name lines result e f h i j k =
+        let five : suc (suc (suc (suc (suc (7 * length lines + 4))))) ≡ 7 * length lines + 9 = omega arith in
+        let l : a ∷ b ∷ c ∷ d ∷ g ∷ rest ≡ head_pieces name ++ rest = cc in
+        l ∙ ap (λ qs. head_pieces name ++ qs) k
+        ∙ ap (λ n. (head_pieces name ++ (flat_map line_pieces lines ++ end_pieces result)) ++ drop n (a ∷ b ∷ c ∷ d ∷ g ∷ rest)) five
 
 -- a definition and the rest
 pub record IsSpelledAt (ps : List Piece) (e : Entity) : Type 0 where
