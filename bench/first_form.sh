@@ -30,5 +30,5 @@ run() { # shape size
     /usr/bin/time -f '%e s, %M KiB' "$top/occam" winnow m.json out 2>"$work/time" >"$work/line" || true )
   printf '%-6s %9d  %9d bytes: %s  %s\n' "$1" "$2" "$bytes" "$(tail -n 1 "$work/time")" "$(cut -c1-60 "$work/line")"
 }
-for n in 13000 52000 200000; do run chain "$n"; done
-for n in 34000 130000 500000; do run adds "$n"; done
+for n in 11000 43000 165000; do run chain "$n"; done
+for n in 31000 118000 445000; do run adds "$n"; done
