@@ -5,12 +5,14 @@ mod body;
 mod constant;
 mod copies;
 mod item;
+mod program;
 mod results;
 mod symbol;
 
 pub use body::{Arg, Block, Body, Inst, Phi, Term};
 pub use constant::{Const, Operand};
 pub use item::{Func, Item, Linkage, Module, Param, Var};
+pub use program::Program;
 pub use symbol::{Builtin, Intrinsic, Sym, SymName, Target};
 
 #[cfg(test)]

@@ -1,6 +1,7 @@
 //! Copies of a module and its parts, their counts and the types of their results.
 use crate::{
-    Arg, Block, Body, Const, Func, Inst, Item, Linkage, Module, Operand, Param, Phi, Term, Var,
+    Arg, Block, Body, Const, Func, Inst, Item, Linkage, Module, Operand, Param, Phi, Program, Term,
+    Var,
 };
 use ir_types::{Bytes, CastOp, Ext, FnType, List, OutOfMemory, Pred, Scalar, Ty};
 use std::alloc::Global;
@@ -144,5 +145,20 @@ fn copies(rt: HostRuntime) -> Result<(), Fail> {
         }
         _ => assert!(rt; false),
     }
+    Ok(())
+}
+
+#[test]
+fn program(rt: HostRuntime) -> Result<(), Fail> {
+    let alloc = rt.alloc();
+    let program = Program::of(
+        alloc,
+        Module {
+            layout: None,
+            triple: None,
+            items: List::new(alloc),
+        },
+    )?;
+    assert_eq!(rt; program.modules().len(), 1);
     Ok(())
 }
