@@ -1,27 +1,23 @@
 -- Variables, an intrinsic and its call, worked by hand.
-use Rattle.std.proofs.Common.{◌≡◌, ◌≢◌, ℕ, ◌≤◌, zero, suc, pos, Bool, true, false, ◌&&◌, ◌==◌, nat_lt, IsTrue, List, [], ◌∷◌, None, Some, All, codes, length, map, refl, ap, sym, ◌∙◌, arith}
-use Rattle.std.specs.List.{list_all}
+use Rattle.std.proofs.Common.{◌≡◌, ℕ, pos, true, false, ◌&&◌, ◌==◌, nat_lt, IsTrue, List, [], ◌∷◌, None, Some, codes, length, refl, ap, sym, ◌∙◌, arith}
 use Rattle.std.proofs.lemmas.Bool.{false≢true}
-use Rattle.std.proofs.lemmas.List.Elements.{All-cons, All-nil}
 use Rattle.ir_types.specs.declared.scalar.Scalar.TheVariants.{I1, I8, I64, Ptr}
 use Rattle.ir_types.specs.declared.scalar.Ext.TheVariants.{Plain}
 use Rattle.ir_types.specs.declared.shape.Ty.TheBlock.{One}
-use Rattle.ir_types.specs.declared.shape.Ty.TheViews.{Array, out-Ty}
+use Rattle.ir_types.specs.declared.shape.Ty.TheViews.{Array}
 use Rattle.ir_types.specs.declared.shape.Ty.TheVariants.{outs-One, outs-Array}
-use Rattle.ir_types.specs.Nesting.{nesting, nodes}
 use Rattle.ir_types.proofs.Nestings.{nesting-One, nesting-Array, nodes-One, nodes-Array}
 use Rattle.ir_syntax.specs.declared.constant.Const.TheBlock.{Int, Addr, Text}
 use Rattle.ir_syntax.specs.declared.constant.Const.TheViews.{Many}
 use Rattle.ir_syntax.specs.declared.constant.Operand.TheVariants as operand
-use Rattle.ir_syntax.specs.declared.body.Arg.{Arg}
 use Rattle.ir_syntax.specs.declared.item.Linkage.TheVariants.{External, Private}
 use Rattle.ir_syntax.specs.declared.item.Var.{Var}
 use Rattle.ir_syntax.specs.declared.item.Func.{Func}
 use Rattle.ir_syntax.specs.declared.item.Item.{Item}
-use Rattle.ir_syntax.specs.Suits.{IsType, suits, takes_number, takes_address, takes_text, takes_parts, is_byte}
+use Rattle.ir_syntax.specs.Suits.{IsType, suits, takes_address, takes_text, takes_parts, is_byte}
 use Rattle.ir_syntax.specs.FormedBody.{EndsInFalse}
-use Rattle.ir_syntax.specs.FormedItem.{FormedVar, FormedFunc, IsName}
-use Rattle.ir_syntax.proofs.SuitLemmas.{suits-Int, suits-Addr, suits-Text, suits-Many}
+use Rattle.ir_syntax.specs.FormedItem.{FormedVar, FormedFunc}
+use Rattle.ir_syntax.proofs.SuitLemmas.{suits-Addr, suits-Text, suits-Many}
 use Rattle.ir_syntax.proofs.WorkedRows.{all_from_test}
 
 -- `@t = global [1 x ptr] [ptr @cb]`, where `@cb` is the third item

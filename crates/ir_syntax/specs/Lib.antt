@@ -1,6 +1,9 @@
+pub mod Definite
+pub mod Edges
 pub mod Formed
 pub mod FormedBody
 pub mod FormedItem
 pub mod Results
 pub mod Straight
 pub mod Suits
+pub mod Typed
