@@ -29,8 +29,9 @@ pub struct FnType {
 }
 
 /// What is known of a value before the program runs. A number is taken modulo 2^w of its integer type.
-#[derive(Clone, Copy, Debug, PartialEq, Eq, Hash)]
+#[derive(Clone, Copy, Debug, Default, PartialEq, Eq, Hash)]
 pub enum Known {
+    #[default]
     Unknown,
     Num(u64),
     Null,
