@@ -1,0 +1,11 @@
+pub mod Contained
+pub mod Words
+pub mod Arriving
+pub mod Searching
+pub mod Passing
+pub mod Sharing
+pub mod Defining
+pub mod Using
+pub mod Within
+pub mod Answering
+pub mod Forming

@@ -1,0 +1,4 @@
+pub mod Bypass
+pub mod FarUses
+pub mod FirstIndefinite
+pub mod Spreading

@@ -1,0 +1,13 @@
+pub mod Least
+pub mod Blocks
+pub mod Asking
+pub mod Reading
+pub mod Pieces
+pub mod Suiting
+pub mod Needed
+pub mod Ordered
+pub mod Plans
+pub mod PlanLaws
+pub mod Roots
+pub mod Shared
+pub mod Programs

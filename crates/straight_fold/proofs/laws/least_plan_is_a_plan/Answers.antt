@@ -1,0 +1,5 @@
+use Rattle.straight_fold.proofs.PlanLaws.{is-plan}
+use Rattle.straight_fold.proofs.laws.least_plan_is_a_plan.Goals as goal
+
+pub returns : goal.returns
+returns c = is-plan

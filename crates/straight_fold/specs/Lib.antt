@@ -1,0 +1,4 @@
+pub mod Calls
+pub mod Expansion
+pub mod Facts
+pub mod Items

@@ -1,0 +1,14 @@
+pub mod Blocks
+pub mod EntryLeft
+pub mod Kept
+pub mod LeftAt
+pub mod LeftInsts
+pub mod LeftNames
+pub mod Plans
+pub mod Renumbering
+pub mod RowPlaces
+pub mod Same
+pub mod StayCounts
+pub mod Unknowns
+pub mod WhatIsLeft
+pub mod WordFacts

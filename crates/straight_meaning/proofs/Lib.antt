@@ -1,0 +1,12 @@
+mod Agreeing
+mod Bound
+mod Counting
+mod Entry
+mod Moving
+mod Numbers
+mod Options
+mod Plans
+mod Ready
+mod Running
+mod Standing
+mod Values

@@ -1,0 +1,4 @@
+pub mod Asked
+pub mod Folding
+pub mod Left
+pub mod Residual

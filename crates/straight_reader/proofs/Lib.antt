@@ -1,0 +1,12 @@
+pub mod NameLists
+pub mod Plain
+pub mod Reading
+pub mod Resolving
+pub mod Spelling
+pub mod Written
+pub mod Forming
+pub mod Found
+pub mod Counting
+pub mod Answering
+pub mod Operands
+pub mod Straight

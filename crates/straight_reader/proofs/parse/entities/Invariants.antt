@@ -1,0 +1,14 @@
+-- the definitions so far, and those that are left
+use Rattle.std.proofs.Common.{◌≡◌, ◌-◌, ◌≤◌, drop, length}
+use Rattle.straight_form.specs.Spelled.{seen}
+use Rattle.straight_reader.specs.Readings.{entities_from, extended}
+use Rattle.straight_reader.proofs.parse.entities.Given as goal
+
+abbrev pub invariant-reading : goal.invariant-reading
+invariant-reading l = record {
+  read : extended l.entities (entities_from 0 (seen (drop l.at l.lexemes))) ≡ entities_from 0 (seen l.lexemes);
+  within : l.at ≤ length l.lexemes;
+}
+
+abbrev pub decreases-reading : goal.decreases-reading
+decreases-reading l = length l.lexemes - l.at
