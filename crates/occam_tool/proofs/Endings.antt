@@ -1,18 +1,25 @@
 -- How the steps of winnowing end, together.
-use Rattle.std.proofs.Common.{◌≡◌, ◌∙◌, ℕ, ◌⊎◌, inl, inr, true, false, List, [], ◌∷◌, Option, Some, None, Ok, Err, refl, sym, ap, subst}
+use Rattle.std.proofs.Common.{◌≡◌, ◌∙◌, ℕ, ◌⊎◌, inl, inr, true, false, List, [], ◌∷◌, Option, Some, None, Result, Ok, Err, refl, sym, ap, subst}
 use Rattle.std.specs.Prelude.{IfSome}
 use Rattle.std.specs.FinMap as map
 use Rattle.occam_base.specs.declared.code.Code.{Code}
 use Rattle.occam_base.specs.declared.code.Code.TheVariants as code
+use Rattle.occam_tool.specs.declared.job.Detail.TheVariants as detail
 use Rattle.occam_base.specs.Files.{FileMap}
 use Rattle.ir_syntax.specs.declared.item.Module.{Module}
-use Rattle.first_form.specs.Canonical.{module_text}
+use Rattle.fixed_point.specs.declared.fault.FixFault.{FixFault}
+use Rattle.fixed_point.specs.declared.fault.FixFault.TheVariants as fix
+use Rattle.ir_types.specs.declared.scalar.Known.{Known}
+use Rattle.name_table.specs.Places.{place_among}
+use Rattle.straight_form.specs.Canonical.{item_names, module_text}
+use Rattle.straight_plan.specs.Left.{left_module}
 use Rattle.occam_tool.specs.declared.job.Refusal.{Refusal}
 use Rattle.occam_tool.specs.declared.plan.Plan.{Plan}
 use Rattle.occam_tool.specs.declared.left.Left.{Left}
-use Rattle.occam_tool.specs.Outcome.{is_free, output_name, Leaves}
-use Rattle.occam_tool.specs.Outcome.Winnows.{ManifestRefused, ModuleRefused, Written}
-use Rattle.occam_tool.specs.Steps.{PlanGives, ModuleGives, Put, IsLeftOf, CanStop, CanEnd}
+use Rattle.occam_tool.specs.Outcome.{Winnows, is_free, output_name, start_of, refusal, Reads, Leaves}
+use Rattle.occam_tool.specs.Outcome.RefusesPlan.{TooMany, TooMuch}
+use Rattle.occam_tool.specs.Outcome.Winnows.{ManifestRefused, ModuleRefused, PlanRefused, Written}
+use Rattle.occam_tool.specs.Steps.{PlanGives, ModuleGives, Put, IsLeftOf, LeftGives, LeavesAt, fault_code, CanStop, CanEnd}
 
 pub can_end : (c : Code) → CanStop (Some c) → CanEnd c
 can_end code.OutOfMemory h = tt
@@ -62,17 +69,49 @@ pub module_ends : (old mid new : Option FileMap) (manifest outdir : List ℕ) (p
 module_ends None mid new manifest outdir plan r named same h e f = tt
 module_ends (Some files) mid new manifest outdir plan r named same h e f =
     let gives : ModuleGives (Some files) plan (Err r) = subst (λ m. ModuleGives m plan (Err r)) same h in
-    ([], ModuleRefused plan.file plan.entry r named (not_free r _ gives f) refl refl, e ∙ same)
+    ([], ModuleRefused plan.file plan.entry plan.args r named (not_free r _ gives f) refl refl, e ∙ same)
 
-pub written_ends : (old mid late new : Option FileMap) (manifest outdir entry : List ℕ) (plan : Plan) (m : Module) (left : Left) → PlanGives old manifest (Ok plan) → mid ≡ old
-    → ModuleGives mid plan (Ok m) → late ≡ mid → entry ≡ plan.entry → IsLeftOf m entry left → Put late new (output_name outdir plan.file) left.text →
-    IfSome old (λ files. Leaves files new manifest outdir (Ok left.report))
-written_ends None mid late new manifest outdir entry plan m left named same h e n is put = tt
-written_ends (Some files) mid late new manifest outdir entry plan m left named same h e n is put =
+-- what was read, where the shelf tells
+reads_of : (files : FileMap) (plan : Plan) (m : Module) (place : ℕ) → ModuleGives (Some files) plan (Ok m) → place_among plan.entry (item_names m) ≡ Some place → Reads files plan.file plan.entry plan.args m place
+reads_of files plan m place gives entered = record { text = gives.0; held = gives.1; form = gives.2; entered = entered }
+
+-- the same for the entry and arguments of the plan
+at_plan : (plan : Plan) (m : Module) (entry : List ℕ) (args : List Known) (answer : Result Left FixFault) → entry ≡ plan.entry → args ≡ plan.args → LeftGives m entry args answer → LeftGives m plan.entry plan.args answer
+at_plan plan m entry args answer n a h = subst (λ x. LeftGives m plan.entry x answer) a (subst (λ x. LeftGives m x args answer) n h)
+
+plan_refused : (files : FileMap) (manifest outdir : List ℕ) (plan : Plan) (m : Module) (fault : FixFault) (place : ℕ) → PlanGives (Some files) manifest (Ok plan)
+    → Reads files plan.file plan.entry plan.args m place → LeavesAt m place plan.args (Err fault) → is_free (fault_code fault) ≡ false
+    → Winnows files manifest outdir (Err (refusal (fault_code fault) detail.Nothing)) []
+plan_refused files manifest outdir plan m fix.TooManyDemands place named reads leaves f = PlanRefused plan.file plan.entry plan.args m place _ named reads (TooMany leaves refl) refl refl
+plan_refused files manifest outdir plan m fix.TooMuchCode place named reads leaves f = PlanRefused plan.file plan.entry plan.args m place _ named reads (TooMuch leaves refl) refl refl
+plan_refused files manifest outdir plan m fix.OutOfMemory place named reads leaves f = absurd (cc)
+
+pub planned_ends : (old mid new : Option FileMap) (manifest outdir entry : List ℕ) (args : List Known) (plan : Plan) (m : Module) (fault : FixFault) (r : Refusal) → PlanGives old manifest (Ok plan) → mid ≡ old
+    → ModuleGives mid plan (Ok m) → new ≡ mid → entry ≡ plan.entry → args ≡ plan.args → LeftGives m entry args (Err fault) → r ≡ refusal (fault_code fault) detail.Nothing → is_free r.code ≡ false →
+    IfSome old (λ files. Leaves files new manifest outdir (Err r))
+planned_ends None mid new manifest outdir entry args plan m fault r named same h e n a left is f = tt
+planned_ends (Some files) mid new manifest outdir entry args plan m fault r named same h e n a left is f =
     let gives : ModuleGives (Some files) plan (Ok m) = subst (λ x. ModuleGives x plan (Ok m)) same h in
-    let of_entry : IsLeftOf m plan.entry left = subst (λ x. IsLeftOf m x left) n is in
+    let here = at_plan plan m entry args (Err fault) n a left in
+    let free : is_free (fault_code fault) ≡ false = sym (ap (λ (x : Refusal). is_free x.code) is) ∙ f in
+    let refused = plan_refused files manifest outdir plan m fault here.place named (reads_of files plan m here.place gives here.entered) here.leaves free in
+    ([], subst (λ x. Winnows files manifest outdir (Err x) []) (sym is) refused, e ∙ same)
+
+pub written_ends : (old mid late new : Option FileMap) (manifest outdir entry : List ℕ) (args : List Known) (plan : Plan) (m : Module) (left : Left) → PlanGives old manifest (Ok plan) → mid ≡ old
+    → ModuleGives mid plan (Ok m) → late ≡ mid → entry ≡ plan.entry → args ≡ plan.args → LeftGives m entry args (Ok left) → Put late new (output_name outdir plan.file) left.text →
+    IfSome old (λ files. Leaves files new manifest outdir (Ok left.report))
+written_ends None mid late new manifest outdir entry args plan m left named same h e n a is put = tt
+written_ends (Some files) mid late new manifest outdir entry args plan m left named same h e n a is put =
+    let gives : ModuleGives (Some files) plan (Ok m) = subst (λ x. ModuleGives x plan (Ok m)) same h in
+    let here = at_plan plan m entry args (Ok left) n a is in
+    let start = start_of m here.place plan.args in
     let changed : Put (Some files) new (output_name outdir plan.file) left.text = subst (λ x. Put x new (output_name outdir plan.file) left.text) (e ∙ same) put in (
-      (output_name outdir plan.file, module_text of_entry.winnowed) ∷ [],
-      Written plan.file plan.entry gives.0 m of_entry.winnowed named gives.1 gives.2 of_entry.is (ap (λ r. Ok r) of_entry.report) refl,
-      changed ∙ ap (λ t. Some (map.insert files (output_name outdir plan.file) t)) of_entry.text,
+      (output_name outdir plan.file, module_text (left_module m start here.leaves.plan)) ∷ [],
+      Written plan.file plan.entry plan.args m here.place here.leaves.plan named (reads_of files plan m here.place gives here.entered) here.leaves.planned (ap (λ r. Ok r) here.leaves.written.report) refl,
+      changed ∙ ap (λ t. Some (map.insert files (output_name outdir plan.file) t)) here.leaves.written.text,
     )
+
+pub fault_can_end : (fault : FixFault) (r : Refusal) → r ≡ refusal (fault_code fault) detail.Nothing → CanEnd r.code
+fault_can_end fix.TooManyDemands r e = subst (λ (x : Refusal). CanEnd x.code) (sym e) tt
+fault_can_end fix.TooMuchCode r e = subst (λ (x : Refusal). CanEnd x.code) (sym e) tt
+fault_can_end fix.OutOfMemory r e = subst (λ (x : Refusal). CanEnd x.code) (sym e) tt

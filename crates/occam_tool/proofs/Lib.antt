@@ -1,8 +1,14 @@
 pub mod Endings
-pub mod KeptPrograms
 pub mod OneOutcome
 pub mod Outcomes
 pub mod Plans
 pub mod Printed
 pub mod Refusals
 pub mod WholeFiles
+pub mod KnownArguments
+pub mod TakenArguments
+pub mod LeftCounts
+pub mod LeftNames
+pub mod Roots
+pub mod KeptPrograms
+pub mod PlanOfEntry

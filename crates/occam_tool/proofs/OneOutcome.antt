@@ -1,29 +1,38 @@
 -- The outcome of the words is one.
-use Rattle.std.proofs.Common.{◌≡◌, ◌∙◌, ℕ, suc, ◌<◌, ◌↔◌, Bool, true, false, List, [], ◌∷◌, length, slice_get, Option, Some, None, Result, Ok, Err, refl, sym, ap, subst, arith}
+use Rattle.std.proofs.Common.{◌≡◌, ◌∙◌, ℕ, true, List, [], ◌∷◌, length, map, Option, Some, None, Result, Ok, Err, sym, ap, subst}
+use Rattle.ir_types.specs.declared.scalar.Known.{Known}
 use Rattle.manifest.specs.declared.fault.Manifest.{Manifest}
 use Rattle.manifest.specs.Manifest.{HasManifest}
 use Rattle.occam_base.specs.declared.code.Code.{Code}
 use Rattle.occam_base.specs.Files.{FileMap, file_of}
 use Rattle.ir_syntax.specs.declared.item.Item.{Item}
 use Rattle.ir_syntax.specs.declared.item.Module.{Module}
-use Rattle.first_form.specs.Form.{IsFirstForm, Spells}
-use Rattle.first_form.specs.Winnowed.{IsReach, IsWinnowed, left_module}
-use Rattle.first_form.specs.Canonical.{module_text}
+use Rattle.straight_form.specs.Form.{IsStraightForm}
+use Rattle.name_table.specs.Places.{place_among}
+use Rattle.straight_form.specs.Canonical.{item_names, module_text}
+use Rattle.straight_plan.specs.declared.cut.Ask.{Ask}
+use Rattle.straight_plan.specs.declared.cut.Cut.{Cut}
+use Rattle.straight_plan.specs.Left.{AreTooMany, IsTooMuch, IsPlanned, IsLeastPlan, left_module}
 use Rattle.occam_tool.specs.declared.job.Refusal.{Refusal}
 use Rattle.occam_tool.specs.declared.job.Report.{Report}
-use Rattle.occam_tool.specs.Manifests.{IsFirstManifest}
+use Rattle.occam_tool.specs.Manifests.{IsSingleManifest, known_arg}
 use Rattle.occam_tool.specs.Words.{command_of}
 use Rattle.occam_tool.specs.Lines.{answer_code, answer_line}
-use Rattle.occam_tool.specs.Outcome.{NamesModule, Outputs, Winnows, RefusesManifest, RefusesModule, report_of, output_name}
-use Rattle.occam_tool.specs.Outcome.Winnows.{ManifestRefused, ModuleRefused, Written}
-use Rattle.occam_tool.specs.Outcome.RefusesManifest.{ManifestAbsent, NotFirstManifest}
-use Rattle.occam_tool.specs.Outcome.RefusesModule.{ModuleAbsent, NotFirstForm}
+use Rattle.occam_tool.specs.Outcome.{NamesModule, Outputs, Winnows, RefusesManifest, RefusesModule, RefusesPlan, Reads, start_of, report_of, output_name}
+use Rattle.occam_tool.specs.Outcome.Winnows.{ManifestRefused, ModuleRefused, PlanRefused, Written}
+use Rattle.occam_tool.specs.Outcome.RefusesManifest.{ManifestAbsent, NotSingle}
+use Rattle.occam_tool.specs.Outcome.RefusesModule.{ModuleAbsent, NotStraight}
+use Rattle.occam_tool.specs.Outcome.RefusesPlan.{TooMany, TooMuch}
 use Rattle.occam_tool.specs.Program.{Answers, IsOutcome}
 
 -- the laws that it rests on
 pub record OneLaws : Type 0 where
-  pub one_module : (text : List ℕ) (m n : Module) → Spells text m → Spells text n → m ≡ n
+  pub one_module : (text entry : List ℕ) (count : ℕ) (m n : Module) → IsStraightForm text entry count m → IsStraightForm text entry count n → m ≡ n
   pub one_manifest : (text : List ℕ) (m n : Manifest) → HasManifest text m → HasManifest text n → m ≡ n
+  pub one_plan : (items : List Item) (start : Ask) (p q : List Cut) → IsLeastPlan items start p → IsLeastPlan items start q → p ≡ q
+  pub not_many : (items : List Item) (start : Ask) (plan : List Cut) → IsPlanned items start plan → AreTooMany items start → ⊥
+  pub not_much : (items : List Item) (start : Ask) (plan : List Cut) → IsPlanned items start plan → IsTooMuch items start → ⊥
+  pub not_both : (items : List Item) (start : Ask) → IsTooMuch items start → AreTooMany items start → ⊥
 
 one_some : {X : Type 0} (x y : X) → Some x ≡ Some y → x ≡ y
 one_some x y e = cc
@@ -34,104 +43,153 @@ one_head x y e = cc
 no_none : {X : Type 0} {P : Type 0} (x : X) → None ≡ Some x → P
 no_none x e = absurd (cc)
 
-one_flag : (a b : Bool) → (Some a ≡ Some true) ↔ (Some b ≡ Some true) → a ≡ b
-one_flag true b h = sym (one_some b true (h.0 refl))
-one_flag a true h = one_some a true (h.1 refl)
-one_flag false false h = refl
-
-one_list : (xs ys : List Bool) → length xs ≡ length ys → ((k : ℕ) → k < length xs → (slice_get xs k ≡ Some true) ↔ (slice_get ys k ≡ Some true)) → xs ≡ ys
-one_list [] [] e h = refl
-one_list [] (y ∷ ys) e h = absurd (omega (arith, e))
-one_list (x ∷ xs) [] e h = absurd (omega (arith, e))
-one_list (x ∷ xs) (y ∷ ys) e h =
-    let first : x ≡ y = one_flag x y (h 0 (omega arith)) in
-    let rest : xs ≡ ys = one_list xs ys (omega (arith, e)) (λ k l. h (suc k) (omega (arith, l))) in
-    λ i. first i ∷ rest i
-
-one_reach : (items : List Item) (start : ℕ) (r q : List Bool) → IsReach items start r → IsReach items start q → r ≡ q
-one_reach items start r q a b = one_list r q (a.each ∙ sym b.each) (λ k l.
-    let within : k < length items = subst (λ n. k < n) a.each l in
-    (λ e. (b.exact k within).1 ((a.exact k within).0 e), λ e. (a.exact k within).1 ((b.exact k within).0 e)))
-
-one_left : (m : Module) (entry : List ℕ) (v w : Module) → IsWinnowed m entry v → IsWinnowed m entry w → v ≡ w
-one_left m entry v w a b =
-    let start : a.1.start ≡ b.1.start = one_some a.1.start b.1.start (sym a.1.entry_place ∙ b.1.entry_place) in
-    let reach : IsReach m.items a.1.start b.0 = subst (λ s. IsReach m.items s b.0) (sym start) b.1.reach in
-    a.2 ∙ ap (λ r. left_module r m) (one_reach m.items a.1.start a.0 b.0 a.1.reach reach) ∙ sym b.2
-
-spells_of : (text entry : List ℕ) (m : Module) → IsFirstForm text entry m → Spells text m
-spells_of text entry m h = record { entities = h.entities; spelled = h.spelled; resolved = h.resolved }
-
 -- one text is held under a name
 one_text : (files : FileMap) (file text other : List ℕ) → file_of files file ≡ Some text → file_of files file ≡ Some other → text ≡ other
 one_text files file text other a b = one_some text other (sym a ∙ b)
 
-one_plan : OneLaws → (text file entry f e : List ℕ) → IsFirstManifest text file entry → IsFirstManifest text f e → (file ≡ f) × (entry ≡ e)
-one_plan laws text file entry f e a b =
-    let same : a.manifest ≡ b.manifest = laws.one_manifest text a.manifest b.manifest a.is b.is in (
-      one_head file f (sym a.first.one_module ∙ ap (λ (m : Manifest). m.modules) same ∙ b.first.one_module),
-      sym a.first.entry_is ∙ ap (λ (m : Manifest). m.entry) same ∙ b.first.entry_is,
+-- ---- what a manifest names is one
+
+abbrev SameNames : (file entry : List ℕ) (args : List Known) (f e : List ℕ) (a : List Known) → Type 0
+SameNames file entry args f e a = (file ≡ f) × (entry ≡ e) × (args ≡ a)
+
+one_plan : OneLaws → (text file entry : List ℕ) (args : List Known) (f e : List ℕ) (a : List Known) → IsSingleManifest text file entry args → IsSingleManifest text f e a → SameNames file entry args f e a
+one_plan laws text file entry args f e a x y =
+    let same : x.manifest ≡ y.manifest = laws.one_manifest text x.manifest y.manifest x.is y.is in (
+      one_head file f (sym x.single.one_module ∙ ap (λ (m : Manifest). m.modules) same ∙ y.single.one_module),
+      sym x.single.entry_is ∙ ap (λ (m : Manifest). m.entry) same ∙ y.single.entry_is,
+      x.single.args_are ∙ ap (λ (m : Manifest). map known_arg m.args) same ∙ sym y.single.args_are,
     )
 
-one_name : OneLaws → (files : FileMap) (manifest file entry f e : List ℕ) → NamesModule files manifest file entry → NamesModule files manifest f e → (file ≡ f) × (entry ≡ e)
-one_name laws files manifest file entry f e a b =
-    one_plan laws a.0 file entry f e a.2 (subst (λ t. IsFirstManifest t f e) (sym (one_text files manifest a.0 b.0 a.1 b.1)) b.2)
+one_name : OneLaws → (files : FileMap) (manifest file entry : List ℕ) (args : List Known) (f e : List ℕ) (a : List Known) → NamesModule files manifest file entry args → NamesModule files manifest f e a
+    → SameNames file entry args f e a
+one_name laws files manifest file entry args f e a x y =
+    one_plan laws x.0 file entry args f e a x.2 (subst (λ t. IsSingleManifest t f e a) (sym (one_text files manifest x.0 y.0 x.1 y.1)) y.2)
+
+-- what holds of the one holds of the other
+moved : (P : List ℕ → List ℕ → List Known → Type 0) (file entry : List ℕ) (args : List Known) (f e : List ℕ) (a : List Known) → SameNames file entry args f e a → P f e a → P file entry args
+moved P file entry args f e a same h = subst (λ x. P file entry x) (sym same.2) (subst (λ x. P file x a) (sym same.1) (subst (λ x. P x e a) (sym same.0) h))
 
 -- a manifest that names a module isn't refused
-no_refusal : {P : Type 0} (files : FileMap) (manifest file entry : List ℕ) (r : Refusal) → NamesModule files manifest file entry → RefusesManifest files manifest r → P
-no_refusal files manifest file entry r names (ManifestAbsent h e) = no_none names.0 (sym h ∙ names.1)
-no_refusal files manifest file entry r names (NotFirstManifest text h none e) =
-    absurd (none file entry (subst (λ t. IsFirstManifest t file entry) (one_text files manifest names.0 text names.1 h) names.2))
+no_refusal : {P : Type 0} (files : FileMap) (manifest file entry : List ℕ) (args : List Known) (r : Refusal) → NamesModule files manifest file entry args → RefusesManifest files manifest r → P
+no_refusal files manifest file entry args r names (ManifestAbsent h e) = no_none names.0 (sym h ∙ names.1)
+no_refusal files manifest file entry args r names (NotSingle text h none e) =
+    absurd (none file entry args (subst (λ t. IsSingleManifest t file entry args) (one_text files manifest names.0 text names.1 h) names.2))
 
 one_manifest_refusal : (files : FileMap) (manifest : List ℕ) (r q : Refusal) → RefusesManifest files manifest r → RefusesManifest files manifest q → r ≡ q
 one_manifest_refusal files manifest r q (ManifestAbsent h e) (ManifestAbsent i d) = e ∙ sym d
-one_manifest_refusal files manifest r q (ManifestAbsent h e) (NotFirstManifest text i none d) = no_none text (sym h ∙ i)
-one_manifest_refusal files manifest r q (NotFirstManifest text h none e) (ManifestAbsent i d) = no_none text (sym i ∙ h)
-one_manifest_refusal files manifest r q (NotFirstManifest text h none e) (NotFirstManifest other i nor d) = e ∙ sym d
+one_manifest_refusal files manifest r q (ManifestAbsent h e) (NotSingle text i none d) = no_none text (sym h ∙ i)
+one_manifest_refusal files manifest r q (NotSingle text h none e) (ManifestAbsent i d) = no_none text (sym i ∙ h)
+one_manifest_refusal files manifest r q (NotSingle text h none e) (NotSingle other i nor d) = e ∙ sym d
 
-one_module_refusal : (files : FileMap) (file entry : List ℕ) (r q : Refusal) → RefusesModule files file entry r → RefusesModule files file entry q → r ≡ q
-one_module_refusal files file entry r q (ModuleAbsent h e) (ModuleAbsent i d) = e ∙ sym d
-one_module_refusal files file entry r q (ModuleAbsent h e) (NotFirstForm text i none d) = no_none text (sym h ∙ i)
-one_module_refusal files file entry r q (NotFirstForm text h none e) (ModuleAbsent i d) = no_none text (sym i ∙ h)
-one_module_refusal files file entry r q (NotFirstForm text h none e) (NotFirstForm other i nor d) = e ∙ sym d
+-- ---- what is read is one
+
+one_module_refusal : (files : FileMap) (file entry : List ℕ) (args : List Known) (r q : Refusal) → RefusesModule files file entry args r → RefusesModule files file entry args q → r ≡ q
+one_module_refusal files file entry args r q (ModuleAbsent h e) (ModuleAbsent i d) = e ∙ sym d
+one_module_refusal files file entry args r q (ModuleAbsent h e) (NotStraight text i none d) = no_none text (sym h ∙ i)
+one_module_refusal files file entry args r q (NotStraight text h none e) (ModuleAbsent i d) = no_none text (sym i ∙ h)
+one_module_refusal files file entry args r q (NotStraight text h none e) (NotStraight other i nor d) = e ∙ sym d
 
 -- a module of the form isn't refused
-no_module_refusal : {P : Type 0} (files : FileMap) (file entry text : List ℕ) (m : Module) (r : Refusal) → file_of files file ≡ Some text → IsFirstForm text entry m
-    → RefusesModule files file entry r → P
-no_module_refusal files file entry text m r held form (ModuleAbsent h e) = no_none text (sym h ∙ held)
-no_module_refusal files file entry text m r held form (NotFirstForm other h none e) =
-    absurd (none m (subst (λ t. IsFirstForm t entry m) (one_text files file text other held h) form))
+no_module_refusal : {P : Type 0} (files : FileMap) (file entry : List ℕ) (args : List Known) (m : Module) (place : ℕ) (r : Refusal) → Reads files file entry args m place
+    → RefusesModule files file entry args r → P
+no_module_refusal files file entry args m place r reads (ModuleAbsent h e) = no_none reads.text (sym h ∙ reads.held)
+no_module_refusal files file entry args m place r reads (NotStraight other h none e) =
+    absurd (none m (subst (λ t. IsStraightForm t entry (length args) m) (one_text files file reads.text other reads.held h) reads.form))
 
-refused_at : (files : FileMap) (file entry f e : List ℕ) (r : Refusal) → (file ≡ f) × (entry ≡ e) → RefusesModule files file entry r → RefusesModule files f e r
-refused_at files file entry f e r same h = subst (λ x. RefusesModule files f x r) same.1 (subst (λ x. RefusesModule files x entry r) same.0 h)
+one_reading : OneLaws → (files : FileMap) (file entry : List ℕ) (args : List Known) (m n : Module) (p q : ℕ) → Reads files file entry args m p → Reads files file entry args n q → (m ≡ n) × (p ≡ q)
+one_reading laws files file entry args m n p q a b =
+    let texts : b.text ≡ a.text = one_text files file b.text a.text b.held a.held in
+    let modules : m ≡ n = laws.one_module a.text entry (length args) m n a.form (subst (λ t. IsStraightForm t entry (length args) n) texts b.form) in
+    (modules, one_some p q (sym a.entered ∙ ap (λ (x : Module). place_among entry (item_names x)) modules ∙ b.entered))
+
+-- ---- what is needed is one
+
+one_plan_refusal : OneLaws → (m : Module) (start : Ask) (r q : Refusal) → RefusesPlan m start r → RefusesPlan m start q → r ≡ q
+one_plan_refusal laws m start r q (TooMany h e) (TooMany i d) = e ∙ sym d
+one_plan_refusal laws m start r q (TooMany h e) (TooMuch i d) = absurd (laws.not_both m.items start i h)
+one_plan_refusal laws m start r q (TooMuch h e) (TooMany i d) = absurd (laws.not_both m.items start h i)
+one_plan_refusal laws m start r q (TooMuch h e) (TooMuch i d) = e ∙ sym d
+
+no_plan_refusal : {P : Type 0} → OneLaws → (m : Module) (start : Ask) (plan : List Cut) (r : Refusal) → IsPlanned m.items start plan → RefusesPlan m start r → P
+no_plan_refusal laws m start plan r planned (TooMany h e) = absurd (laws.not_many m.items start plan planned h)
+no_plan_refusal laws m start plan r planned (TooMuch h e) = absurd (laws.not_much m.items start plan planned h)
+
+-- the same of a module that was read, at the same names
+at_reading : OneLaws → (P : Module → ℕ → Type 0) (files : FileMap) (file entry : List ℕ) (args : List Known) (m n : Module) (p q : ℕ) → Reads files file entry args m p → Reads files file entry args n q → P n q → P m p
+at_reading laws P files file entry args m n p q a b h =
+    let same = one_reading laws files file entry args m n p q a b in subst (λ x. P x p) (sym same.0) (subst (λ x. P n x) (sym same.1) h)
+
+-- ---- winnowing
 
 abbrev Same : (a b : Result Report Refusal) (o p : Outputs) → Type 0
 Same a b o p = (a ≡ b) × (o ≡ p)
 
-one_written : OneLaws → (files : FileMap) (file entry text f e other : List ℕ) (m w n v : Module) → (file ≡ f) × (entry ≡ e) → file_of files file ≡ Some text → file_of files f ≡ Some other
-    → IsFirstForm text entry m → IsFirstForm other e n → IsWinnowed m entry w → IsWinnowed n e v → (m ≡ n) × (w ≡ v)
-one_written laws files file entry text f e other m w n v same held there form right_form left right =
-    let texts : text ≡ other = one_text files file text other held (ap (λ x. file_of files x) same.0 ∙ there) in
-    let modules : m ≡ n = laws.one_module text m n (spells_of text entry m form) (subst (λ t. Spells t n) (sym texts) (spells_of other e n right_form)) in
-    let here : IsWinnowed m entry v = subst (λ x. IsWinnowed x entry v) (sym modules) (subst (λ x. IsWinnowed n x v) (sym same.1) right) in
-    (modules, one_left m entry w v left here)
+-- what is read, and why what is needed is refused
+abbrev Refused : FileMap → Refusal → Module → ℕ → List ℕ → List ℕ → List Known → Type 0
+Refused files r m place file entry args = Reads files file entry args m place × RefusesPlan m (start_of m place args) r
+
+abbrev Planned : FileMap → Module → ℕ → List Cut → List ℕ → List ℕ → List Known → Type 0
+Planned files m place plan file entry args = Reads files file entry args m place × IsPlanned m.items (start_of m place args) plan
+
+both_refused : OneLaws → (files : FileMap) (file entry : List ℕ) (args : List Known) (m n : Module) (p k : ℕ) (r q : Refusal) → Refused files r m p file entry args → Refused files q n k file entry args → r ≡ q
+both_refused laws files file entry args m n p k r q a b =
+    one_plan_refusal laws m (start_of m p args) r q a.1 (at_reading laws (λ x y. RefusesPlan x (start_of x y args) q) files file entry args m n p k a.0 b.0 b.1)
+
+one_refused : {P : Type 0} → OneLaws → (files : FileMap) (file entry : List ℕ) (args : List Known) (m n : Module) (p k : ℕ) (r : Refusal) (plan : List Cut) → Refused files r m p file entry args
+    → Planned files n k plan file entry args → P
+one_refused laws files file entry args m n p k r plan a b =
+    no_plan_refusal laws m (start_of m p args) plan r (at_reading laws (λ x y. IsPlanned x.items (start_of x y args) plan) files file entry args m n p k a.0 b.0 b.1) a.1
+
+-- what is left, as the answer and the output say
+abbrev Done : List ℕ → List ℕ → List Known → Module → ℕ → List Cut → Result Report Refusal × Outputs
+Done outdir file args m place plan = (Ok (report_of m (start_of m place args) plan), (output_name outdir file, module_text (left_module m (start_of m place args) plan)) ∷ [])
+
+both_planned : OneLaws → (files : FileMap) (outdir file entry : List ℕ) (args : List Known) (m n : Module) (p k : ℕ) (plan other : List Cut) → Planned files m p plan file entry args
+    → Planned files n k other file entry args → Done outdir file args m p plan ≡ Done outdir file args n k other
+both_planned laws files outdir file entry args m n p k plan other a b =
+    let same = one_reading laws files file entry args m n p k a.0 b.0 in
+    let here : IsPlanned m.items (start_of m p args) other = at_reading laws (λ x y. IsPlanned x.items (start_of x y args) other) files file entry args m n p k a.0 b.0 b.1 in
+    let plans : plan ≡ other = laws.one_plan m.items (start_of m p args) plan other a.1.least here.least in
+    λ i. Done outdir file args (same.0 i) (same.1 i) (plans i)
 
 one_winnowing : OneLaws → (files : FileMap) (manifest outdir : List ℕ) (a b : Result Report Refusal) (o p : Outputs) → Winnows files manifest outdir a o → Winnows files manifest outdir b p → Same a b o p
 one_winnowing laws files manifest outdir a b o p (ManifestRefused r h e n) (ManifestRefused q i d k) = (e ∙ ap (λ x. Err x) (one_manifest_refusal files manifest r q h i) ∙ sym d, n ∙ sym k)
-one_winnowing laws files manifest outdir a b o p (ManifestRefused r h e n) (ModuleRefused file entry q names i d k) = no_refusal files manifest file entry r names h
-one_winnowing laws files manifest outdir a b o p (ManifestRefused r h e n) (Written file entry text m w names held form left d k) = no_refusal files manifest file entry r names h
-one_winnowing laws files manifest outdir a b o p (ModuleRefused file entry r names h e n) (ManifestRefused q i d k) = no_refusal files manifest file entry q names i
-one_winnowing laws files manifest outdir a b o p (ModuleRefused file entry r names h e n) (ModuleRefused f g q there i d k) =
-    (e ∙ ap (λ x. Err x) (one_module_refusal files f g r q (refused_at files file entry f g r (one_name laws files manifest file entry f g names there) h) i) ∙ sym d, n ∙ sym k)
-one_winnowing laws files manifest outdir a b o p (ModuleRefused file entry r names h e n) (Written f g text m w there held form left d k) =
-    no_module_refusal files f g text m r held form (refused_at files file entry f g r (one_name laws files manifest file entry f g names there) h)
-one_winnowing laws files manifest outdir a b o p (Written file entry text m w names held form left e n) (ManifestRefused q i d k) = no_refusal files manifest file entry q names i
-one_winnowing laws files manifest outdir a b o p (Written f g text m w there held form left e n) (ModuleRefused file entry q names i d k) =
-    no_module_refusal files f g text m q held form (refused_at files file entry f g q (one_name laws files manifest file entry f g names there) i)
-one_winnowing laws files manifest outdir a b o p (Written file entry text m w names held form left e n) (Written f g other u v there holds right_form right d k) =
-    let same = one_name laws files manifest file entry f g names there in
-    let both = one_written laws files file entry text f g other m w u v same held holds form right_form left right in
-    (e ∙ (λ i. Ok (report_of (both.0 i) (both.1 i))) ∙ sym d, n ∙ (λ i. (output_name outdir (same.0 i), module_text (both.1 i)) ∷ []) ∙ sym k)
+one_winnowing laws files manifest outdir a b o p (ManifestRefused r h e n) (ModuleRefused file entry args q names i d k) = no_refusal files manifest file entry args r names h
+one_winnowing laws files manifest outdir a b o p (ManifestRefused r h e n) (PlanRefused file entry args m place q names reads i d k) = no_refusal files manifest file entry args r names h
+one_winnowing laws files manifest outdir a b o p (ManifestRefused r h e n) (Written file entry args m place plan names reads planned d k) = no_refusal files manifest file entry args r names h
+one_winnowing laws files manifest outdir a b o p (ModuleRefused file entry args r names h e n) (ManifestRefused q i d k) = no_refusal files manifest file entry args q names i
+one_winnowing laws files manifest outdir a b o p (ModuleRefused file entry args r names h e n) (ModuleRefused f g x q there i d k) =
+    let back = moved (λ c d y. RefusesModule files c d y q) file entry args f g x (one_name laws files manifest file entry args f g x names there) i in
+    (e ∙ ap (λ y. Err y) (one_module_refusal files file entry args r q h back) ∙ sym d, n ∙ sym k)
+one_winnowing laws files manifest outdir a b o p (ModuleRefused file entry args r names h e n) (PlanRefused f g x m place q there reads i d k) =
+    let back = moved (λ c d y. Reads files c d y m place) file entry args f g x (one_name laws files manifest file entry args f g x names there) reads in
+    no_module_refusal files file entry args m place r back h
+one_winnowing laws files manifest outdir a b o p (ModuleRefused file entry args r names h e n) (Written f g x m place plan there reads planned d k) =
+    let back = moved (λ c d y. Reads files c d y m place) file entry args f g x (one_name laws files manifest file entry args f g x names there) reads in
+    no_module_refusal files file entry args m place r back h
+one_winnowing laws files manifest outdir a b o p (PlanRefused file entry args m place r names reads h e n) (ManifestRefused q i d k) = no_refusal files manifest file entry args q names i
+one_winnowing laws files manifest outdir a b o p (PlanRefused file entry args m place r names reads h e n) (ModuleRefused f g x q there i d k) =
+    let back = moved (λ c d y. RefusesModule files c d y q) file entry args f g x (one_name laws files manifest file entry args f g x names there) i in
+    no_module_refusal files file entry args m place q reads back
+one_winnowing laws files manifest outdir a b o p (PlanRefused file entry args m place r names reads h e n) (PlanRefused f g x u v q there holds i d k) =
+    let back = moved (Refused files q u v) file entry args f g x (one_name laws files manifest file entry args f g x names there) (holds, i) in
+    (e ∙ ap (λ y. Err y) (both_refused laws files file entry args m u place v r q (reads, h) back) ∙ sym d, n ∙ sym k)
+one_winnowing laws files manifest outdir a b o p (PlanRefused file entry args m place r names reads h e n) (Written f g x u v plan there holds planned d k) =
+    let back = moved (Planned files u v plan) file entry args f g x (one_name laws files manifest file entry args f g x names there) (holds, planned) in
+    one_refused laws files file entry args m u place v r plan (reads, h) back
+one_winnowing laws files manifest outdir a b o p (Written file entry args m place plan names reads planned e n) (ManifestRefused q i d k) = no_refusal files manifest file entry args q names i
+one_winnowing laws files manifest outdir a b o p (Written file entry args m place plan names reads planned e n) (ModuleRefused f g x q there i d k) =
+    let back = moved (λ c d y. RefusesModule files c d y q) file entry args f g x (one_name laws files manifest file entry args f g x names there) i in
+    no_module_refusal files file entry args m place q reads back
+one_winnowing laws files manifest outdir a b o p (Written file entry args m place plan names reads planned e n) (PlanRefused f g x u v q there holds i d k) =
+    let back = moved (Refused files q u v) file entry args f g x (one_name laws files manifest file entry args f g x names there) (holds, i) in
+    one_refused laws files file entry args u m v place q plan back (reads, planned)
+one_winnowing laws files manifest outdir a b o p (Written file entry args m place plan names reads planned e n) (Written f g x u v other there holds right d k) =
+    let same = one_name laws files manifest file entry args f g x names there in
+    let back = moved (Planned files u v other) file entry args f g x same (holds, right) in
+    let here : Done outdir file args m place plan ≡ Done outdir file args u v other = both_planned laws files outdir file entry args m u place v plan other (reads, planned) back in
+    let whole : Done outdir file args m place plan ≡ Done outdir f x u v other = here ∙ (λ i. Done outdir (same.0 i) (same.2 i) u v other) in
+    (e ∙ ap (λ (y : Result Report Refusal × Outputs). y.0) whole ∙ sym d, n ∙ ap (λ (y : Result Report Refusal × Outputs). y.1) whole ∙ sym k)
 
 one_answer : OneLaws → (files : FileMap) (command : Option (List ℕ × List ℕ)) (a b : Result Report Refusal) (o p : Outputs) → Answers command files a o → Answers command files b p → Same a b o p
 one_answer laws files None a b o p x y = (x.0 ∙ sym y.0, x.1 ∙ sym y.1)

@@ -5,12 +5,13 @@ use Rattle.std.specs.Str.{IsAscii}
 use Rattle.std.proofs.lemmas.Str.{IsUtf8-from_ascii}
 use Rattle.std.proofs.lemmas.List.Elements.{recursion_from_All}
 use Rattle.std.specs.List.{AllByRecursion}
+use Rattle.ir_types.specs.declared.scalar.Known.{Known}
 use Rattle.manifest.specs.declared.fault.Manifest.{Manifest}
 use Rattle.manifest.specs.declared.fault.ManifestFault.{ManifestFault}
 use Rattle.manifest.specs.Manifest.{HasManifest, IsOrWantsMemory}
 use Rattle.manifest.specs.Names.{IsModuleByte, IsModuleName}
 use Rattle.occam_tool.specs.declared.plan.Plan.{Plan}
-use Rattle.occam_tool.specs.Manifests.{IsFirst, IsNoFirst, PlanOf}
+use Rattle.occam_tool.specs.Manifests.{IsSingle, IsNoSingle, PlanOf}
 
 same_manifest : (m other : Manifest) → (let answer : Result Manifest ManifestFault = Ok m in IsOrWantsMemory answer (Ok other)) → m ≡ other
 same_manifest m other (inl e) = cc
@@ -19,10 +20,10 @@ same_manifest m other (inr e) = cc
 -- a text has one manifest, so the plan of it is the plan of the text
 pub plan_gives : (text : List ℕ) (m : Manifest) (plan : Option Plan) → length text ≤ 1048576 → HasManifest text m
     → ((other : Manifest) → HasManifest text other → (let answer : Result Manifest ManifestFault = Ok m in IsOrWantsMemory answer (Ok other)))
-    → MatchOption plan (IsNoFirst m) (λ p. IsFirst m p.file p.entry) → PlanOf text plan
-plan_gives text m None small is only h = λ file entry first.
-    h file entry (subst (λ x. IsFirst x file entry) (sym (same_manifest m first.manifest (only first.manifest first.is))) first.first)
-plan_gives text m (Some p) small is only h = record { size = small; manifest = m; is = is; first = h }
+    → MatchOption plan (IsNoSingle m) (λ p. IsSingle m p.file p.entry p.args) → PlanOf text plan
+plan_gives text m None small is only h = λ file entry args single.
+    h file entry args (subst (λ x. IsSingle x file entry args) (sym (same_manifest m single.manifest (only single.manifest single.is))) single.single)
+plan_gives text m (Some p) small is only h = record { size = small; manifest = m; is = is; single = h }
 
 mark_small : (b k : ℕ) → slice_index_or (codes "._/-") k b ≡ b → k < 4 → b < 128
 mark_small b zero e h = omega arith
@@ -45,13 +46,13 @@ name_ascii (b ∷ bs) h (suc i) = name_ascii bs h.1 i
 one_named : (names : List (List ℕ)) (file : List ℕ) → names ≡ file ∷ [] → All IsModuleName names → IsModuleName file
 one_named names file e h = (recursion_from_All IsModuleName (file ∷ []) (subst (All IsModuleName) e h)).0
 
-file_text : (text : List ℕ) (m : Manifest) (file entry : List ℕ) → HasManifest text m → IsFirst m file entry → IsUtf8 file
-file_text text m file entry is first =
-    let named = one_named m.modules file first.one_module is.2.modules.named in
+file_text : (text : List ℕ) (m : Manifest) (file entry : List ℕ) (args : List Known) → HasManifest text m → IsSingle m file entry args → IsUtf8 file
+file_text text m file entry args is single =
+    let named = one_named m.modules file single.one_module is.2.modules.named in
     IsUtf8-from_ascii file (name_ascii file (recursion_from_All IsModuleByte file named.bytes))
 
 -- a module's name is text
 pub plan_text : (text : List ℕ) (m : Manifest) (plan : Option Plan) → HasManifest text m
-    → MatchOption plan (IsNoFirst m) (λ p. IsFirst m p.file p.entry) → IfSome plan (λ p. IsUtf8 p.file)
+    → MatchOption plan (IsNoSingle m) (λ p. IsSingle m p.file p.entry p.args) → IfSome plan (λ p. IsUtf8 p.file)
 plan_text text m None is h = tt
-plan_text text m (Some p) is h = file_text text m p.file p.entry is h
+plan_text text m (Some p) is h = file_text text m p.file p.entry p.args is h

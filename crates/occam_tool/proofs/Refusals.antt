@@ -3,7 +3,7 @@ use Rattle.std.proofs.Common.{◌≡◌, ◌∙◌, ℕ, ◌<◌, ◌⊎◌, inl
 use Rattle.occam_base.specs.declared.code.Code.TheVariants as code
 use Rattle.occam_base.specs.Files.{FileMap, file_of}
 use Rattle.ir_syntax.specs.declared.item.Module.{Module}
-use Rattle.first_form.specs.Form.{IsFirstForm}
+use Rattle.straight_form.specs.Form.{IsStraightForm}
 use Rattle.occam_tool.specs.declared.job.Detail.TheVariants as detail
 use Rattle.occam_tool.specs.declared.job.Refusal.{Refusal}
 use Rattle.occam_tool.specs.declared.plan.Plan.{Plan}
@@ -12,8 +12,8 @@ use Rattle.occam_tool.specs.declared.reading.Stop.TheVariants as stop
 use Rattle.occam_tool.specs.Manifests.{PlanOf}
 use Rattle.occam_tool.specs.Reading.{WholeGives, WholeOf}
 use Rattle.occam_tool.specs.Outcome.{refusal, is_free}
-use Rattle.occam_tool.specs.Outcome.RefusesManifest.{NotFirstManifest}
-use Rattle.occam_tool.specs.Outcome.RefusesModule.{NotFirstForm}
+use Rattle.occam_tool.specs.Outcome.RefusesManifest.{NotSingle}
+use Rattle.occam_tool.specs.Outcome.RefusesModule.{NotStraight}
 use Rattle.occam_tool.specs.Steps.{PlanGives, ModuleGives}
 
 abbrev OrMemory : Refusal → Refusal → Type 0
@@ -50,28 +50,28 @@ plan_large_told : (files : Option FileMap) (manifest : List ℕ) (r : Refusal) �
 plan_large_told None manifest r h is = tt
 plan_large_told (Some files) manifest r h is =
     let found = large_file (file_of files manifest) 1048576 h in
-    or_free r _ _ is (λ same. NotFirstManifest found.0 found.1 (λ file entry first. omega (arith, first.size, found.2)) same)
+    or_free r _ _ is (λ same. NotSingle found.0 found.1 (λ file entry args single. omega (arith, single.size, found.2)) same)
 
 plan_other_told : (files : Option FileMap) (manifest text : List ℕ) (r : Refusal) → WholeOf files manifest 1048576 (Ok text) → PlanOf text None
     → OrMemory r (refusal code.NotInSubset (detail.At manifest 0)) → PlanGives files manifest (Err r)
 plan_other_told None manifest text r h other is = tt
 plan_other_told (Some files) manifest text r h other is =
     let found = read_file (file_of files manifest) 1048576 text h in
-    or_free r _ _ is (λ same. NotFirstManifest text found other same)
+    or_free r _ _ is (λ same. NotSingle text found other same)
 
 module_large_told : (files : Option FileMap) (plan : Plan) (r : Refusal) → WholeOf files plan.file 16777216 (Err stop.TooLarge)
     → OrMemory r (refusal code.NotInSubset (detail.At plan.file 0)) → ModuleGives files plan (Err r)
 module_large_told None plan r h is = tt
 module_large_told (Some files) plan r h is =
     let found = large_file (file_of files plan.file) 16777216 h in
-    or_free r _ _ is (λ same. NotFirstForm found.0 found.1 (λ m form. omega (arith, form.size, found.2)) same)
+    or_free r _ _ is (λ same. NotStraight found.0 found.1 (λ m form. omega (arith, form.size, found.2)) same)
 
 module_other_told : (files : Option FileMap) (plan : Plan) (text : List ℕ) (r : Refusal) → WholeOf files plan.file 16777216 (Ok text)
-    → ((m : Module) → IsFirstForm text plan.entry m → ⊥) → OrMemory r (refusal code.NotInSubset (detail.At plan.file 0)) → ModuleGives files plan (Err r)
+    → ((m : Module) → IsStraightForm text plan.entry (length plan.args) m → ⊥) → OrMemory r (refusal code.NotInSubset (detail.At plan.file 0)) → ModuleGives files plan (Err r)
 module_other_told None plan text r h other is = tt
 module_other_told (Some files) plan text r h other is =
     let found = read_file (file_of files plan.file) 16777216 text h in
-    or_free r _ _ is (λ same. NotFirstForm text found other same)
+    or_free r _ _ is (λ same. NotStraight text found other same)
 
 too_large : (e : Stop) → e ≡ stop.TooLarge → (let a : Result (List ℕ) Stop = Err e in a ≡ Err stop.TooLarge)
 too_large e is = ap (λ x. Err x) is
@@ -92,8 +92,8 @@ pub module_large : (files : Option FileMap) (plan : Plan) (read name : List ℕ)
 module_large files plan read name e r same is large h refused =
     module_large_told files plan r (at_name files read name plan.file 16777216 (Err e) (Err stop.TooLarge) same is (too_large e large) h) (at_detail r name plan.file is refused)
 
-pub module_other : (files : Option FileMap) (plan : Plan) (read name text seen entry : List ℕ) (r : Refusal) → read ≡ name → name ≡ plan.file → seen ≡ text → entry ≡ plan.entry
-    → WholeOf files read 16777216 (Ok text) → ((m : Module) → IsFirstForm seen entry m → ⊥) → OrMemory r (refusal code.NotInSubset (detail.At name 0)) → ModuleGives files plan (Err r)
-module_other files plan read name text seen entry r same is shown entered h other refused =
+pub module_other : (files : Option FileMap) (plan : Plan) (read name text seen entry : List ℕ) (count : ℕ) (r : Refusal) → read ≡ name → name ≡ plan.file → seen ≡ text → entry ≡ plan.entry → count ≡ length plan.args
+    → WholeOf files read 16777216 (Ok text) → ((m : Module) → IsStraightForm seen entry count m → ⊥) → OrMemory r (refusal code.NotInSubset (detail.At name 0)) → ModuleGives files plan (Err r)
+module_other files plan read name text seen entry count r same is shown entered counted h other refused =
     module_other_told files plan text r (at_name files read name plan.file 16777216 (Ok text) (Ok text) same is refl h)
-    (λ m form. other m (subst (λ s. IsFirstForm s entry m) (sym shown) (subst (λ n. IsFirstForm text n m) (sym entered) form))) (at_detail r name plan.file is refused)
+    (λ m form. other m (subst (λ s. IsStraightForm s entry count m) (sym shown) (subst (λ n. IsStraightForm text n count m) (sym entered) (subst (λ k. IsStraightForm text plan.entry k m) (sym counted) form)))) (at_detail r name plan.file is refused)

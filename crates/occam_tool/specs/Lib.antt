@@ -8,3 +8,4 @@ pub mod Reading
 pub mod Steps
 pub mod Winnowings
 pub mod Words
+pub mod Entering

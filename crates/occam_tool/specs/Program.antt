@@ -51,4 +51,6 @@ CanExit code.WriteFault = Unit {0}
 CanExit code.PrintFault = Unit {0}
 CanExit code.Absent = Unit {0}
 CanExit code.NotInSubset = Unit {0}
+CanExit code.TooManyDemands = Unit {0}
+CanExit code.TooMuchCode = Unit {0}
 CanExit other = ⊥

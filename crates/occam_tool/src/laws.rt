@@ -5,8 +5,9 @@ ghost use Rattle.occam_base.specs.Files.{FileMap};
 ghost use Rattle.occam_tool.specs.Outcome.{Outputs};
 ghost use Rattle.occam_tool.specs.Program.{IsOutcome};
 
-use first_writer::spelling_is_one;
 use manifest::text_has_one_answer;
+use straight_fold::{limits_are_apart, plans_are_one};
+use straight_reader::the_form_is_straight;
 
 /// The words have one outcome at most over the files: a status, what is put, and a line.
 pub fn outcome_is_one()
@@ -14,6 +15,8 @@ pub fn outcome_is_one()
     ensures outputs { (words : List (List ℕ)) (files : FileMap) (s t : Status) (o p : Outputs) (k l : List ℕ) → IsOutcome words files s o k → IsOutcome words files t p l → o ≡ p }
     ensures line { (words : List (List ℕ)) (files : FileMap) (s t : Status) (o p : Outputs) (k l : List ℕ) → IsOutcome words files s o k → IsOutcome words files t p l → k ≡ l }
 {
-    spelling_is_one();
+    the_form_is_straight();
     text_has_one_answer();
+    plans_are_one();
+    limits_are_apart();
 }

@@ -1,20 +1,31 @@
 //! The module of a plan, and what is left of it.
-ghost use Rattle.std.specs.Prelude.{◌≡◌, ◌≤◌, IsUtf8, IsSome, IfOk};
-ghost use Rattle.first_form.specs.Winnowed.{instruction_count, item_names};
-ghost use Rattle.name_table.specs.Places.{place_among};
-ghost use Rattle.occam_tool.specs.Steps.{ModuleGives, ReadsAlone, IsLeftOf, code_of, CanStop};
+ghost use Rattle.std.specs.Prelude.{◌≡◌, ◌≤◌, ◌∷◌, [], sum_by, IsUtf8, IfOk, length, slice_get};
+ghost use Rattle.ir_syntax.specs.declared.item.Module.{Module as ModuleValue};
+ghost use Rattle.interface.specs.Demands.{IsFunctionFor};
+ghost use Rattle.straight_plan.specs.Asked.{program_items};
+ghost use Rattle.straight_plan.specs.Left.{IsPlan, size_of};
+ghost use Rattle.ir_syntax.specs.Straight.{IsStraight};
+ghost use Rattle.straight_form.specs.Counts.{instruction_count};
+ghost use Rattle.occam_tool.specs.Steps.{ModuleGives, ReadsAlone, IsWrittenLeft, LeavesAt, LeftGives, code_of, CanStop};
+ghost use Rattle.straight_reader.specs.Entered.{HasEntry};
+ghost use Rattle.occam_tool.specs.Entering.{AreWords};
 
+use crate::counting::count_instructions;
+use crate::entering::place_of_entry;
 use crate::path::as_text;
 use crate::plan::Plan;
 use crate::reading::{Stop, read_whole};
 use crate::refusing::{not_of_form, of_file, out_of_memory};
 use crate::{Refusal, Report};
-use first_reach::reach_from;
-use first_writer::write;
-use ir_syntax::Module;
-use ir_types::{Bytes, OutOfMemory};
+use fixed_point::FixFault;
+use ir_syntax::{Module, Program};
+use ir_types::{Bytes, Known, OutOfMemory};
 use occam_base::{Code, Shelf};
 use std::alloc::Global;
+use straight_fold::{least_plan_is_a_plan, plan, root_of};
+use straight_leave::{clones, originals};
+use straight_plan::{Ask, Cut};
+use straight_reader::the_form_is_straight;
 
 const MODULE_LIMIT: usize = 16_777_216;
 
@@ -26,14 +37,16 @@ pub struct Left {
 }
 
 /// Reads the module that the plan names.
-pub fn read_first<S: Shelf>(alloc: Global, shelf: &mut S, plan: &Plan) -> Result<Module, Refusal>
+pub fn read_module<S: Shelf>(alloc: Global, shelf: &mut S, plan: &Plan) -> Result<Module, Refusal>
     requires { IsUtf8 plan.now.file }
     ensures gives { ModuleGives (S.files shelf.old) plan.now result }
     ensures codes { CanStop (code_of result) }
     ensures alone { ReadsAlone (code_of result) (S.files shelf.old) (S.files shelf.new) (S.read_faults shelf.old) (S.read_faults shelf.new) (S.put_faults shelf.old) (S.put_faults shelf.new) }
-    ensures entered { IfOk result (λ m. IsSome (place_among plan.now.entry (item_names m))) }
+    ensures straight { IfOk result IsStraight }
+    ensures entered { IfOk result (λ m. HasEntry m plan.now.entry (length plan.now.args)) }
     ensures bounded { IfOk result (λ m. instruction_count m ≤ 16777216) }
 {
+    the_form_is_straight();
     let name = plan.file.as_slice();
     let text = match read_whole(alloc, shelf, as_text(name), MODULE_LIMIT) {
         Ok(text) => text,
@@ -42,28 +55,86 @@ pub fn read_first<S: Shelf>(alloc: Global, shelf: &mut S, plan: &Plan) -> Result
         Err(Stop::TooLarge) => return Err(not_of_form(alloc, name)),
         Err(Stop::OutOfMemory) => return Err(out_of_memory()),
     };
-    match first_reader::read(alloc, text.as_slice(), plan.entry.as_slice()) {
+    match straight_reader::read(
+        alloc,
+        text.as_slice(),
+        plan.entry.as_slice(),
+        plan.args.len(),
+    ) {
         Ok(Some(module)) => Ok(module),
         Ok(None) => Err(not_of_form(alloc, name)),
         Err(OutOfMemory) => Err(out_of_memory()),
     }
 }
 
-/// What calls reach from the entry, written, and its counts.
-pub fn leave(alloc: Global, m: &Module, entry: &[u8]) -> Result<Left, OutOfMemory>
-    requires entered { IsSome (place_among entry.now (item_names m.now)) }
-    requires bounded { instruction_count m.now ≤ 16777216 }
-    ensures { IfOk result (IsLeftOf m.now entry.now) }
+/// What is left of a module for its entry with these arguments, written, and its counts.
+pub fn leave(alloc: Global, module: Module, entry: &[u8], args: &[Known]) -> Result<Left, FixFault>
+    requires straight { IsStraight «module» }
+    requires entered { HasEntry «module» entry.now (length args.now) }
+    requires words { AreWords args.now }
+    requires bounded { instruction_count «module» ≤ 16777216 }
+    ensures { LeftGives «module» entry.now args.now result }
 {
-    let reach = reach_from(alloc, m, entry)?;
-    let text = write(alloc, m, reach.reached.as_slice())?;
+    let before = count_instructions(module.items.as_slice());
+    let place = match place_of_entry(module.items.as_slice(), entry) {
+        Some(place) => place,
+        None => return Err(FixFault::OutOfMemory),
+    };
+    let program = Program::of(alloc, module)?;
+    leave_program(alloc, &program, place, args, before)
+}
+
+// The same for a program of the one module, whose entry stands at a place.
+fn leave_program(
+    alloc: Global,
+    program: &Program,
+    place: usize,
+    args: &[Known],
+    before: u64,
+) -> Result<Left, FixFault>
+    requires entry { IsFunctionFor args.now (slice_get (program_items program.now) place) }
+    requires counted { (m : ModuleValue) → program.now ≡ m ∷ [] → before ≡ instruction_count m }
+    ensures { (m : ModuleValue) → program.now ≡ m ∷ [] → LeavesAt m place args.now result }
+{
+    least_plan_is_a_plan();
+    let start = root_of(alloc, program, place, args)?;
+    let cuts = plan(alloc, program, place, args)?;
+    let module = only_module(program);
+    let left = written(alloc, module, &start, cuts.as_slice(), before)?;
+    Ok(left)
+}
+
+// The one module of a program.
+fn only_module(program: &Program) -> &Module
+    ensures only { program.now ≡ result.now ∷ [] }
+    ensures straight { IsStraight result.now }
+{
+    &program.modules()[0]
+}
+
+// What a plan leaves of a module, written, and its counts.
+fn written(
+    alloc: Global,
+    module: &Module,
+    start: &Ask,
+    cuts: &[Cut],
+    before: u64,
+) -> Result<Left, OutOfMemory>
+    requires straight { IsStraight «module».now }
+    requires plan { IsPlan «module».now.items start.now cuts.now }
+    requires short { sum_by (size_of «module».now.items) cuts.now ≤ 8388608 }
+    requires before { before ≡ instruction_count «module».now }
+    ensures { IfOk result (λ left. IsWrittenLeft «module».now start.now cuts.now left) }
+{
+    let left = straight_leave::leave(alloc, module, start, cuts)?;
+    let text = straight_writer::write(alloc, &left)?;
     let report = Report {
         modules: 1,
-        originals: reach.originals,
-        clones: 0,
+        originals: originals(start, cuts) as u64,
+        clones: clones(start, cuts) as u64,
         globals: 0,
-        instructions: reach.instructions,
-        before: reach.before,
+        instructions: count_instructions(left.items.as_slice()),
+        before,
     };
     Ok(Left { text, report })
 }

@@ -1,6 +1,9 @@
 //! The top call of OCCAM: words in, files and one line out.
 #![tactic(auto)]
 
+mod arguments;
+mod counting;
+mod entering;
 mod job;
 mod laws;
 mod left;

@@ -1,24 +1,28 @@
-//! Reading the manifest: which module, and which entry.
+//! Reading the manifest: which module, which entry, and with which arguments.
 ghost use Rattle.std.specs.Prelude.{◌≡◌, ◌≤◌, length, IsUtf8, IfOk, IfSome, MatchOption};
 ghost use Rattle.occam_tool.specs.Steps.{PlanGives, ReadsAlone, code_of, CanStop};
-ghost use Rattle.occam_tool.specs.Manifests.{PlanOf, IsFirst, IsNoFirst};
+ghost use Rattle.occam_tool.specs.Entering.{AreWords};
+ghost use Rattle.occam_tool.specs.Manifests.{PlanOf, IsSingle, IsNoSingle};
 
 use crate::Refusal;
+use crate::arguments::known_arguments;
 use crate::path::as_text;
 use crate::reading::{Stop, read_whole};
 use crate::refusing::{not_of_form, of_file, out_of_memory};
-use ir_types::{Bytes, OutOfMemory};
+use ir_types::{Bytes, Known, OutOfMemory};
 use manifest::{Manifest, ManifestFault, read_manifest};
 use occam_base::{Code, Shelf};
+use sqlite_items::Items as List;
 use std::alloc::Global;
 
 const MANIFEST_LIMIT: usize = 1_048_576;
 
-/// What a manifest of the first form says.
+/// What a manifest of one module says: the module's file, the entry, and what is known of its arguments.
 #[derive(Debug, Drop)]
 pub struct Plan {
     pub file: Bytes,
     pub entry: Bytes,
+    pub args: List<Known>,
 }
 
 /// Reads the manifest's file.
@@ -28,6 +32,7 @@ pub fn read_plan<S: Shelf>(alloc: Global, shelf: &mut S, manifest: &Bytes) -> Re
     ensures codes { CanStop (code_of result) }
     ensures alone { ReadsAlone (code_of result) (S.files shelf.old) (S.files shelf.new) (S.read_faults shelf.old) (S.read_faults shelf.new) (S.put_faults shelf.old) (S.put_faults shelf.new) }
     ensures text { IfOk result (λ plan. IsUtf8 plan.file) }
+    ensures words { IfOk result (λ plan. AreWords plan.args) }
 {
     let name = manifest.as_slice();
     let text = match read_whole(alloc, shelf, as_text(name), MANIFEST_LIMIT) {
@@ -44,23 +49,24 @@ pub fn read_plan<S: Shelf>(alloc: Global, shelf: &mut S, manifest: &Bytes) -> Re
     }
 }
 
-// The plan of a text, where it is a manifest of the first form.
+// The plan of a text, where it is a manifest of one module.
 fn plan_of(alloc: Global, text: &[u8]) -> Result<Option<Plan>, OutOfMemory>
     requires { length text.now ≤ 1048576 }
     ensures plan { IfOk result (PlanOf text.now) }
     ensures text { IfOk result (λ plan. IfSome plan (λ p. IsUtf8 p.file)) }
+    ensures words { IfOk result (λ plan. IfSome plan (λ p. AreWords p.args)) }
 {
     match read_manifest(alloc, text) {
-        Ok(manifest) => Ok(first_plan(manifest)),
+        Ok(manifest) => single_plan(alloc, manifest),
         Err(ManifestFault::NotJson) => Ok(None),
         Err(ManifestFault::BadManifest { key: _ }) => Ok(None),
         Err(ManifestFault::OutOfMemory) => Err(OutOfMemory),
     }
 }
 
-// The plan of a manifest with one module and nothing besides an entry without arguments.
-fn first_plan(manifest: Manifest) -> Option<Plan>
-    ensures { MatchOption result (IsNoFirst manifest) (λ p. IsFirst manifest p.file p.entry) }
+// The plan of a manifest with one module and nothing besides an entry with arguments of 32 bits.
+fn single_plan(alloc: Global, manifest: Manifest) -> Result<Option<Plan>, OutOfMemory>
+    ensures { IfOk result (λ plan. MatchOption plan (IsNoSingle manifest) (λ p. IsSingle manifest p.file p.entry p.args)) }
 {
     let Manifest {
         mut modules,
@@ -69,12 +75,15 @@ fn first_plan(manifest: Manifest) -> Option<Plan>
         exports,
         outside,
     } = manifest;
-    let bare = args.is_empty() && exports.is_empty() && outside.is_empty();
-    if !bare || modules.len() != 1 {
-        return None;
+    if !exports.is_empty() || !outside.is_empty() || modules.len() != 1 {
+        return Ok(None);
     }
+    let args = match known_arguments(alloc, args.as_slice())? {
+        Some(args) => args,
+        None => return Ok(None),
+    };
     match modules.pop() {
-        Some(file) => Some(Plan { file, entry }),
-        None => None,
+        Some(file) => Ok(Some(Plan { file, entry, args })),
+        None => Ok(None),
     }
 }

@@ -1,8 +1,10 @@
-//! Refusals over one file.
+//! Refusals.
 ghost use Rattle.std.specs.Prelude.{◌≡◌, ◌⊎◌};
 ghost use Rattle.occam_tool.specs.Outcome.{refusal};
+ghost use Rattle.occam_tool.specs.Steps.{fault_code};
 
 use crate::{Detail, Refusal};
+use fixed_point::FixFault;
 use ir_types::Bytes;
 use occam_base::Code;
 use std::alloc::Global;
@@ -13,6 +15,21 @@ pub fn out_of_memory() -> Refusal
 {
     Refusal {
         code: Code::OutOfMemory,
+        detail: Detail::Nothing,
+    }
+}
+
+/// The refusal of what is needed past a limit, or of want of memory.
+pub fn unplanned(fault: FixFault) -> Refusal
+    ensures { result ≡ refusal (fault_code fault) Detail.Nothing }
+{
+    let code = match fault {
+        FixFault::TooManyDemands => Code::TooManyDemands,
+        FixFault::TooMuchCode => Code::TooMuchCode,
+        FixFault::OutOfMemory => Code::OutOfMemory,
+    };
+    Refusal {
+        code,
         detail: Detail::Nothing,
     }
 }

@@ -12,12 +12,15 @@ use crate::telling::{refuse, report_done};
 use crate::winnowing::winnow;
 use crate::words::{Command, command_of};
 use crate::{Detail, Job, Refusal};
-use first_meaning::{meaning_is_kept, run_goes_on};
-use first_writer::{spelling_is_one, what_is_left_keeps_the_form};
 use ir_types::{Bytes, OutOfMemory};
 use occam_base::{Code, Gate, Shelf, Sink, Source};
 use std::alloc::Global;
 use std::thread::Threads;
+use straight_fold::least_plan_is_a_plan;
+use straight_leave::what_is_left_is_straight;
+use straight_meaning::{meaning_is_kept, run_goes_on};
+use straight_reader::the_form_is_straight;
+use straight_writer::{spelling_is_one, what_is_written_spells_the_module};
 
 /// Does what the words of the command line ask for, and prints one line to the sink.
 ///
@@ -43,7 +46,7 @@ pub fn tool<R: Threads + Sync, S: Shelf, I: Source, O: Sink, G: Gate>(
     ensures outcome { is_free result ≡ false → IfSome (S.files shelf.old) (λ files.
         Ends (map (λ w. string_bytes w) words.now) files (S.files shelf.new) (O.taken out.old) (O.taken out.new) (O.faults out.old) (O.faults out.new) result) }
 
-    // On Done the written text spells one module, which keeps the form, and means what the original means.
+    // On Done the written text spells what is left, and no other module, and that means what the original means.
     ensures kept { result ≡ Code.Done → IfSome (S.files shelf.old) (λ files.
         Keeps (map (λ w. string_bytes w) words.now) files (S.files shelf.new)) }
 
@@ -60,8 +63,11 @@ pub fn tool<R: Threads + Sync, S: Shelf, I: Source, O: Sink, G: Gate>(
         → TakesRefusal (O.taken out.old) (O.taken out.new) result }
 {
     // The laws that the clause `kept` rests on; they run no code.
+    the_form_is_straight();
+    least_plan_is_a_plan();
+    what_is_left_is_straight();
+    what_is_written_spells_the_module();
     spelling_is_one();
-    what_is_left_keeps_the_form();
     meaning_is_kept();
     run_goes_on();
     match command_of(words) {

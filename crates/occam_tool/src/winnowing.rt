@@ -5,21 +5,23 @@ ghost use Rattle.occam_tool.specs.Lines.{answer_code};
 ghost use Rattle.occam_tool.specs.Outcome.{Leaves, is_free};
 ghost use Rattle.occam_tool.specs.Steps.{PutGives, code_of, CanEnd};
 
-use crate::left::{leave, read_first};
+use crate::left::{leave, read_module};
 use crate::path::{as_text, path_of};
 use crate::plan::read_plan;
-use crate::refusing::out_of_memory;
+use crate::refusing::{out_of_memory, unplanned};
 use crate::{Detail, Job, Refusal, Report};
 use ir_types::{Bytes, OutOfMemory};
 use occam_base::{Code, Fault, Gate, Shelf};
 use std::alloc::Global;
 use std::thread::Threads;
 
-/// Reads the manifest and its module, and writes `OUTDIR/name` with what calls reach from the entry. Nothing is
-/// written before the module is accepted.
+/// Reads the manifest and its module, and writes `OUTDIR/name` with the functions and copies that the entry needs
+/// for its arguments. Nothing is written before the module is accepted.
 ///
 /// Refusals: `ReadFault` and `WriteFault` where a read or the write failed, `Absent` where a file isn't there,
-/// `NotInSubset` where the manifest or the module isn't of the first form, and `OutOfMemory`.
+/// `NotInSubset` where the manifest or the module isn't of the form, `TooManyDemands` where more than 65,536
+/// functions and copies are needed, `TooMuchCode` where they have more than 8,388,608 instructions and terminators,
+/// and `OutOfMemory`.
 pub fn winnow<R: Threads + Sync, S: Shelf, G: Gate>(
     _rt: &R,
     alloc: Global,
@@ -47,13 +49,13 @@ pub fn winnow<R: Threads + Sync, S: Shelf, G: Gate>(
         Ok(plan) => plan,
         Err(refusal) => return Err(refusal),
     };
-    let module = match read_first(alloc, shelf, &plan) {
+    let module = match read_module(alloc, shelf, &plan) {
         Ok(module) => module,
         Err(refusal) => return Err(refusal),
     };
-    let left = match leave(alloc, &module, plan.entry.as_slice()) {
+    let left = match leave(alloc, module, plan.entry.as_slice(), plan.args.as_slice()) {
         Ok(left) => left,
-        Err(OutOfMemory) => return Err(out_of_memory()),
+        Err(fault) => return Err(unplanned(fault)),
     };
     match put_output(alloc, shelf, &job.outdir, &plan.file, &left.text) {
         Ok(()) => Ok(left.report),

@@ -1,11 +1,21 @@
-use Rattle.occam_tool.proofs.OneOutcome.{one_outcome}
+use Rattle.occam_tool.proofs.OneOutcome.{OneLaws, one_outcome}
 use Rattle.occam_tool.proofs.laws.outcome_is_one.Goals as goal
 
+laws : goal.After-limits_are_apart → OneLaws
+laws c = record {
+  one_module = c.the_form_is_straight.ensures.one;
+  one_manifest = c.text_has_one_answer.ensures.one_manifest;
+  one_plan = c.plans_are_one.ensures;
+  not_many = c.limits_are_apart.ensures.not_many;
+  not_much = c.limits_are_apart.ensures.not_much;
+  not_both = c.limits_are_apart.ensures.not_both;
+}
+
 pub returns-clause-status : goal.returns-clause-status
-returns-clause-status c = λ words files s t o p k l x y. (one_outcome (record { one_module = c.spelling_is_one.ensures; one_manifest = c.text_has_one_answer.ensures.one_manifest }) words files s t o p k l x y).0
+returns-clause-status c = λ words files s t o p k l x y. (one_outcome (laws c) words files s t o p k l x y).0
 
 pub returns-clause-outputs : goal.returns-clause-outputs
-returns-clause-outputs c = λ words files s t o p k l x y. (one_outcome (record { one_module = c.spelling_is_one.ensures; one_manifest = c.text_has_one_answer.ensures.one_manifest }) words files s t o p k l x y).1
+returns-clause-outputs c = λ words files s t o p k l x y. (one_outcome (laws c) words files s t o p k l x y).1
 
 pub returns-clause-line : goal.returns-clause-line
-returns-clause-line c = λ words files s t o p k l x y. (one_outcome (record { one_module = c.spelling_is_one.ensures; one_manifest = c.text_has_one_answer.ensures.one_manifest }) words files s t o p k l x y).2
+returns-clause-line c = λ words files s t o p k l x y. (one_outcome (laws c) words files s t o p k l x y).2

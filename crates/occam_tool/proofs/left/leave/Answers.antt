@@ -1,14 +1,9 @@
-use Rattle.std.proofs.Common.{◌∙◌, refl, ap}
-use Rattle.first_form.specs.Winnowed.{left_module}
-use Rattle.first_form.specs.Canonical.{module_text}
+use Rattle.std.proofs.Common.{◌∙◌, map, ap}
+use Rattle.ir_syntax.specs.FormedBody.{item_name}
+use Rattle.occam_tool.proofs.TakenArguments.{takes_at}
 use Rattle.occam_tool.proofs.left.leave.Goals as goal
 
-pub returns : goal.returns
-returns c =
-    let found = c.in_ok-reach.ensures in
-    record {
-      winnowed = left_module c.in_ok-reach.reach.reached c.args.m.now;
-      is = (c.in_ok-reach.reach.reached, found.reach, refl);
-      text = c.in_ok-text.ensures ∙ ap (λ r. module_text (left_module r c.args.m.now)) c.as_slice.ensures;
-      report = λ i. record { modules = 1; originals = found.originals i; clones = 0; globals = 0; instructions = found.instructions i; before = found.before i };
-    }
+pub leave_program-requires-clause-entry : goal.leave_program-requires-clause-entry
+leave_program-requires-clause-entry c =
+    takes_at c.args.module c.args.entry.now c.args.args.now c.requires.entered c.requires.straight c.requires.words c.in-Some.place (map item_name c.as_slice-2.result.now) c.place_of_entry.result c.in-Some.is
+    c.place_of_entry.ensures (ap (map item_name) c.as_slice-2.ensures) c.in_ok-program.program c.in_ok-program.ensures

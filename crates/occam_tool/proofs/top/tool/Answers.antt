@@ -23,12 +23,18 @@ returns-in-None-clause-refusal g c = λ a b some quiet.
 pub returns-in-Some-clause-kept : goal.returns-in-Some-clause-kept
 returns-in-Some-clause-kept g c = λ done.
     let laws : Laws = record {
+      straight = c.the_form_is_straight.ensures.straight;
+      entered = c.the_form_is_straight.ensures.entered;
+      plain = c.the_form_is_straight.ensures.plain;
+      is_plan = c.least_plan_is_a_plan.ensures;
+      left_straight = c.what_is_left_is_straight.ensures.straight;
+      left_names = c.what_is_left_is_straight.ensures.names;
+      spells = c.what_is_written_spells_the_module.ensures;
       one = c.spelling_is_one.ensures;
-      back = c.what_is_left_keeps_the_form.ensures;
       agree = c.meaning_is_kept.ensures.agree;
+      bound = c.meaning_is_kept.ensures.bound;
       goes_on = c.run_goes_on.ensures.run;
       never_undefined = c.run_goes_on.ensures.phase;
-      bound = c.meaning_is_kept.ensures.bound;
     } in
     kept_command laws (g.S.Shelf.files c.args.shelf.now) (g.S.Shelf.files c.run_winnow.new.shelf) (map (λ w. string_bytes w) c.args.words.now) c.in-Some.command.manifest.now c.in-Some.command.outdir.now
     (g.O.Sink.taken c.args.out.now) (g.O.Sink.taken c.run_winnow.new.out) (g.O.Sink.faults c.args.out.now) (g.O.Sink.faults c.run_winnow.new.out) c.run_winnow.result

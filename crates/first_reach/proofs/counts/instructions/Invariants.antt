@@ -1,6 +1,0 @@
-use Rattle.std.proofs.Common.{◌≡◌, ◌+◌, drop, sum_by}
-use Rattle.first_form.specs.Winnowed.{item_count}
-use Rattle.first_reach.proofs.counts.instructions.Given as goal
-
-abbrev pub invariant-loop-item : goal.invariant-loop-item
-invariant-loop-item l = l.count + sum_by item_count (drop l.item-index l.items) ≡ sum_by item_count l.items
