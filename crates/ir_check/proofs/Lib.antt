@@ -1,0 +1,9 @@
+pub mod Agreeing
+pub mod Cases
+pub mod Counting
+pub mod Edging
+pub mod Entered
+pub mod Loops
+pub mod NameLemmas
+pub mod Suiting
+pub mod WalkLemmas

@@ -1,0 +1,6 @@
+pub mod IllTyped
+pub mod Incoming
+pub mod Nests
+pub mod Scopes
+pub mod Suited
+pub mod Walks
