@@ -30,8 +30,9 @@ pub fn check_paths(alloc: Global, m: &Module) -> Result<(), PathFault>
     check_items(alloc, m.items.as_slice())
 }
 
-/// Checks the paths of the functions among the items. What it ensures is of items that a text can write.
-pub(crate) fn check_items(alloc: Global, items: &[Item]) -> Result<(), PathFault>
+/// Checks the paths of the functions among the items, in their order. It has no condition; what it ensures is of items
+/// that a text can write. The error is as that of `check_paths`.
+pub fn check_items(alloc: Global, items: &[Item]) -> Result<(), PathFault>
     ensures definite { OnOk result (All (FormedItem items.now) items.now → All DefiniteItem items.now) }
     ensures not_definite { (item : ℕ) → result ≡ Err (PathFault.NotDefinite item) → All (FormedItem items.now) items.now → IsFirstIndefinite items.now item }
 {

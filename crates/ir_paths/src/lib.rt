@@ -17,4 +17,4 @@ mod spread;
 mod tests;
 
 pub use fault::PathFault;
-pub use items::check_paths;
+pub use items::{check_items, check_paths};
