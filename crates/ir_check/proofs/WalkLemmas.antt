@@ -1,8 +1,7 @@
 -- Walks into a type, one index after another.
-use Rattle.std.proofs.Common.{◌≡◌, ℕ, suc, ◌+◌, ◌<◌, ◌≤◌, List, ◌∷◌, length, get_or, drop, drop-cons, add-one, Option, None, Some, IsSome, refl, ap, sym, subst, ◌∙◌}
+use Rattle.std.proofs.Common.{◌≡◌, ℕ, suc, ◌+◌, ◌<◌, List, ◌∷◌, length, get_or, drop, drop-cons, add-one, Option, None, Some, IsSome, refl, ap, sym, subst, ◌∙◌}
 use Rattle.std.specs.Prelude.{◌↔◌, IfSome}
 use Rattle.std.proofs.lemmas.Bool.{false≢true}
-use Rattle.std.proofs.lemmas.List.{drop_all}
 use Rattle.ir_types.specs.declared.scalar.Scalar.{Scalar}
 use Rattle.ir_types.specs.declared.scalar.Scalar.TheVariants.{I1, I8, I16, I32, I64, Ptr}
 use Rattle.ir_types.specs.declared.shape.Ty.{Ty}
@@ -77,6 +76,3 @@ pub enters_none : (ty : Ty) (indices : List Index) (i : ℕ) (index : Index) →
 unfolding part
 enters_none ty indices i index within is e h =
     none_in (out-Ty ty) index (λ part. Enters part (drop (i + 1) indices)) e (subst (Enters ty) (next_at indices i index within is) h)
-
-pub enters_end : (ty : Ty) (indices : List Index) (i : ℕ) → length indices ≤ i → Enters ty (drop i indices)
-enters_end ty indices i past = subst (Enters ty) (sym (drop_all i indices past)) tt

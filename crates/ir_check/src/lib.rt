@@ -30,8 +30,7 @@ use ir_types::OutOfMemory;
 use std::alloc::Global;
 
 /// The place of the first item that isn't well typed among these, and `None` where each is. Types in the items nest at
-/// most 64 deep.
-/// `OutOfMemory` says that the allocator refused memory.
+/// most 64 deep. `OutOfMemory` says that the allocator refused memory.
 pub fn first_ill_typed(alloc: Global, items: &[Item]) -> Result<Option<usize>, OutOfMemory>
     requires { All ItemNests items.now }
     ensures { IfOk result (λ found. MatchOption found (All (TypedItem items.now) items.now) (IsFirstIllTyped items.now)) }

@@ -11,3 +11,4 @@ pub mod PlanLaws
 pub mod Roots
 pub mod Shared
 pub mod Programs
+pub mod WorkedModule

@@ -14,9 +14,6 @@ not-below-itself a below =
     let clash : Less ≡ Equal = sym below ∙ tie in
     (cc)
 
-pub below-differs : (a b : Demand) → demand_order a b ≡ Less → a ≢ b
-below-differs a b below same = not-below-itself a (subst (λ (d : Demand). demand_order a d ≡ Less) (sym same) below)
-
 module _ {X : Type 0} (key : X → Demand) where
   abbrev pub IsBefore : X → X → Type 0
   IsBefore x y = demand_order (key x) (key y) ≡ Less

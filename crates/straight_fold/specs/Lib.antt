@@ -2,3 +2,4 @@ pub mod Calls
 pub mod Expansion
 pub mod Facts
 pub mod Items
+pub mod Worked
