@@ -1,6 +1,6 @@
 #!/usr/bin/env bash
 # Generates modules of straight-line functions, winnows each, and prints time and peak memory. Shapes: one call chain
-# of many functions and one function of many additions, of about 1, 4 and 16 MiB, and a family whose functions and
+# of many functions (at most 65,536 are taken), one function of many additions, of about 1, 4 and 16 MiB, and a family whose functions and
 # copies double with each function more: 2^n - 1 are needed of n functions.
 set -eu
 top=$(cd "$(dirname "$0")/.." && pwd)
@@ -40,6 +40,6 @@ run() { # shape size entry arguments
     /usr/bin/time -f '%e s, %M KiB' "$top/occam" winnow m.json out 2>"$work/time" >"$work/line" || true )
   printf '%-6s %9d  %9d bytes: %s  %s\n' "$1" "$2" "$bytes" "$(tail -n 1 "$work/time")" "$(cut -c1-90 "$work/line")"
 }
-for n in 11000 43000 165000; do run chain "$n" main ''; done
+for n in 16000 32000 64000; do run chain "$n" main ''; done
 for n in 31000 118000 445000; do run adds "$n" main ''; done
 for n in 12 14 16; do run family "$n" l0 1; done
