@@ -1,8 +1,7 @@
 #!/usr/bin/env bash
 # Generates modules of straight-line functions, winnows each, and prints time and peak memory. Shapes: one call chain
 # of many functions (at most 65,536 are taken), one function of many additions, of about 1, 4 and 16 MiB, and a
-# family whose functions and
-# copies double with each function more: 2^n - 1 are needed of n functions.
+# family whose functions and copies double with each function more: 2^n - 1 are needed of n functions.
 set -eu
 top=$(cd "$(dirname "$0")/.." && pwd)
 work=$(mktemp -d)
