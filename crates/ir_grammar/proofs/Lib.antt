@@ -1,0 +1,5 @@
+pub mod Others
+pub mod Powers
+pub mod Depths
+pub mod Steps
+pub mod Counts

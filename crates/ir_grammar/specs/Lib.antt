@@ -1,0 +1,16 @@
+pub mod Turns
+pub mod Scalars
+pub mod Numbers
+pub mod Words
+pub mod Shapes
+pub mod Attributes
+pub mod Marks
+pub mod Types
+pub mod Constants
+pub mod Flags
+pub mod Calls
+pub mod Values
+pub mod Blocks
+pub mod Entities
+pub mod Grammar
+pub mod Walk
