@@ -1,0 +1,5 @@
+pub mod Totals
+pub mod Closed
+pub mod Moving
+pub mod Parts
+pub mod Suiting

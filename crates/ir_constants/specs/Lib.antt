@@ -1,0 +1,4 @@
+pub mod Offsets
+pub mod Constants
+pub mod Singles
+pub mod Indices

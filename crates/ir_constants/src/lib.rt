@@ -1,0 +1,15 @@
+//! Constants as a module writes them, at their types.
+#![tactic(auto)]
+
+mod addresses;
+mod constants;
+mod laws;
+mod offsets;
+mod singles;
+mod symbols;
+
+pub use constants::read_constant;
+pub use laws::constants_suit;
+
+#[cfg(test)]
+mod tests;
