@@ -1,0 +1,10 @@
+pub mod Readings
+pub mod NameLists
+pub mod Powers
+pub mod Heading
+pub mod Splitting
+pub mod Resolving
+pub mod FormingItems
+pub mod FormingModules
+pub mod OneModule
+pub mod Within
