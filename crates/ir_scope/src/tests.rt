@@ -134,12 +134,20 @@ fn types(alloc: Global, all: &[u8]) -> Result<List<(Bytes, Ty)>, OutOfMemory> {
     Ok(types)
 }
 
+/// Adds structs of one byte and of two, of which an earlier type has the name of the first.
+fn add_structs(alloc: Global, scope: &mut Scope) -> Result<(), OutOfMemory> {
+    let rows: [(&[u8], usize); 2] = [(b"u", 1), (b"v", 2)];
+    for (name, count) in &rows {
+        scope.add_type(alloc, name, bytes(alloc, *count)?)?;
+    }
+    Ok(())
+}
+
 #[test]
 fn written_types(rt: HostRuntime) -> Result<(), Fail> {
     let alloc = rt.alloc();
     let mut scope = Scope::first_of(alloc, types(alloc, b"tut")?, List::new(alloc))?;
-    scope.add_type(alloc, b"u", Ty::One(Scalar::I64))?;
-    scope.add_type(alloc, b"v", bytes(alloc, 2)?)?;
+    add_structs(alloc, &mut scope)?;
     let rows: [(&[u8], &str); 32] = [
         (b"i1 ", "I1 1"),
         (b"i8 i8 ", "I8 1"),
@@ -203,26 +211,37 @@ fn text_of(
     Ok(text)
 }
 
-/// A scope of types that nest 63 and 65 deep, and of structs of so many bytes.
-fn large_scope(alloc: Global) -> Result<Scope, OutOfMemory> {
-    let mut scope = Scope::first_of(alloc, List::new(alloc), List::new(alloc))?;
-    scope.add_type(alloc, b"63", nested(alloc, 63)?)?;
-    scope.add_type(alloc, b"65", nested(alloc, 65)?)?;
-    for count in 2046..2048usize {
-        let name = if count == 2046 { b"2046" } else { b"2047" };
-        scope.add_type(alloc, name, bytes(alloc, count)?)?;
+/// A type that nests so deep, or has so many fields.
+fn sized(alloc: Global, size: usize, deep: bool) -> Result<Ty, OutOfMemory> {
+    if deep {
+        nested(alloc, size)
+    } else {
+        bytes(alloc, size)
     }
-    for count in 4095..4097usize {
-        let name = if count == 4095 { b"4095" } else { b"4096" };
-        scope.add_type(alloc, name, bytes(alloc, count)?)?;
+}
+
+/// Types that nest 63 and 65 deep, and structs of so many bytes.
+fn large(alloc: Global) -> Result<List<(Bytes, Ty)>, OutOfMemory> {
+    let rows: [(&[u8], usize, bool); 6] = [
+        (b"63", 63, true),
+        (b"65", 65, true),
+        (b"2046", 2046, false),
+        (b"2047", 2047, false),
+        (b"4095", 4095, false),
+        (b"4096", 4096, false),
+    ];
+    let mut types = List::new(alloc);
+    for (name, size, deep) in &rows {
+        let ty = sized(alloc, *size, *deep)?;
+        types.push((Bytes::from_slice(alloc, name)?, ty))?;
     }
-    Ok(scope)
+    Ok(types)
 }
 
 #[test]
 fn large_types(rt: HostRuntime) -> Result<(), Fail> {
     let alloc = rt.alloc();
-    let scope = large_scope(alloc)?;
+    let scope = Scope::first_of(alloc, large(alloc)?, List::new(alloc))?;
     let rows: [(&[u8], &[u8], usize, &[u8], usize, usize); 22] = [
         (b"", b"[ 2 ", 64, b"i8 ", 0, 129),
         (b"", b"[ 2 ", 65, b"i8 ", 0, 0),
