@@ -1,5 +1,5 @@
 -- Numbers of a module as the machine has them: bytes below 256, counts below 2^64, and offsets of 64 bits with a sign.
-use Rattle.std.specs.Prelude.{ℕ, ℤ, pos, negsuc, ◌^◌, Bool, true, ◌&&◌, nat_lt, List, All, IfSome, IsTrue}
+use Rattle.std.specs.Prelude.{ℕ, ℤ, pos, negsuc, ◌<◌, ◌^◌, Bool, true, ◌&&◌, nat_lt, List, All, IfSome, IsTrue}
 use Rattle.std.specs.List.{list_all}
 use Rattle.ir_types.specs.declared.shape.Ty.{Ty}
 use Rattle.ir_types.specs.declared.shape.Ty.TheOpen.{Ty-F}
