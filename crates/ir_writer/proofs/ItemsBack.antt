@@ -21,7 +21,7 @@ abbrev pub BodiesBack : Env → List (List ℕ) → List Item → Type 0
 BodiesBack env names items =
     (params : ℕ) (body : Body) → params ≤ 32 → FormedBody items params body → All BlockInRange body.blocks → body_at env (texts_from param_name 0 params) (body_kept names body) ≡ Some body
 
-item-bytes : (i : Item) → ItemInRange i → AreBytes (item_name i)
+pub item-bytes : (i : Item) → ItemInRange i → AreBytes (item_name i)
 item-bytes (item.Var var) range = range.0
 item-bytes (item.Func func) range = range.0
 
