@@ -19,8 +19,9 @@ use Rattle.ir_writer.specs.Instructions.{entry_parts, phi_parts, case_parts, ter
 use Rattle.ir_writer.proofs.Kept.{joined, close_square_kept, entry_kept, phi_kept, case_kept, term_kept}
 use Rattle.ir_writer.proofs.WalkedParts.{Through, nothing, spaced, keeps, drops, passes, then_on, Said}
 use Rattle.ir_writer.proofs.WalkedWords.{scalar_shape}
+use Rattle.ir_writer.proofs.WalkedSingles.{count_through}
 use Rattle.ir_writer.proofs.WalkedQuiet.{past_trailers, past_more_phi}
-use Rattle.ir_writer.proofs.WalkedOperands.{AreNames, operand_through, number_through}
+use Rattle.ir_writer.proofs.WalkedOperands.{AreNames, operand_through}
 
 -- the type of a case of a switch
 case_taken : (ty : Scalar) (next : List Symbol) → settle (is.Scalar ty) false (sym.Cases ty ∷ next) ≡ Taken keep.Drops (sym.Number ∷ sym.Comma ∷ sym.LabelWord ∷ sym.LocalName ∷ sym.Cases ty ∷ next)
@@ -36,7 +37,7 @@ cases_through : (ty : Scalar) (cases : List (ℕ × ℕ)) (next : List Symbol) �
 cases_through ty [] next = keeps refl refl refl (nothing (sym.Trailers ∷ sym.BlockEnd ∷ next))
 cases_through ty (case ∷ cases) next =
     drops (scalar_shape ty) refl (case_taken ty next)
-    (spaced (then_on (number_through ty case.0 (sym.Comma ∷ sym.LabelWord ∷ sym.LocalName ∷ sym.Cases ty ∷ next))
+    (spaced (then_on (count_through ty case.0 (sym.Comma ∷ sym.LabelWord ∷ sym.LocalName ∷ sym.Cases ty ∷ next))
     (drops refl refl refl (spaced (drops refl refl refl (spaced (keeps refl refl refl (spaced (cases_through ty cases next)))))))))
 
 module _ (names : List (List ℕ)) (are : AreNames names) (places : Places) where

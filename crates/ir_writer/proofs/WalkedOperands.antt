@@ -1,10 +1,9 @@
 -- The grammar takes the tokens of operands and alignments.
-use Rattle.std.proofs.Common.{◌≡◌, ℕ, zero, suc, ◌==◌, Bool, true, false, List, [], ◌∷◌, length, Option, Some, None, refl, ◌<◌, arith}
-use Rattle.std.specs.Prelude.{All, codes, if◌then◌else◌}
+use Rattle.std.proofs.Common.{◌≡◌, ℕ, zero, suc, Bool, true, false, List, [], ◌∷◌, length, Option, Some, None, refl, ◌<◌, arith}
+use Rattle.std.specs.Prelude.{All}
 use Rattle.std.proofs.lemmas.List.Elements.{All-nil, All-head, All-tail}
 use Rattle.ir_lexer.specs.Written.{spellings_of}
 use Rattle.ir_types.specs.declared.scalar.Scalar.{Scalar}
-use Rattle.ir_types.specs.declared.scalar.Scalar.TheVariants.{I1, I8, I16, I32, I64, Ptr}
 use Rattle.ir_types.specs.declared.shape.Ty.TheBlock.{One}
 use Rattle.ir_syntax.specs.declared.constant.Operand.{Operand}
 use Rattle.ir_syntax.specs.declared.constant.Operand.TheVariants as operand
@@ -12,16 +11,13 @@ use Rattle.ir_syntax.specs.FormedBody.{Places, IsOperand, IsAlign}
 use Rattle.ir_grammar.specs.declared.shape.AtName.{AtName}
 use Rattle.ir_grammar.specs.declared.shape.AtName.TheVariants as at_name
 use Rattle.ir_grammar.specs.declared.shape.Shape.TheVariants as is
-use Rattle.ir_grammar.specs.declared.shape.Value.TheVariants as val
 use Rattle.ir_grammar.specs.declared.symbol.Symbol.{Symbol}
 use Rattle.ir_grammar.specs.declared.symbol.Symbol.TheVariants as sym
 use Rattle.ir_grammar.specs.Shapes.{at_shape}
 use Rattle.ir_writer.specs.Names.{name_at}
-use Rattle.ir_writer.specs.Words.{word}
-use Rattle.ir_writer.specs.Constants.{integer}
 use Rattle.ir_writer.specs.Instructions.{operand_parts, pair, align_parts}
 use Rattle.ir_writer.specs.Ranges.{AreBytes}
-use Rattle.ir_writer.proofs.Kept.{integer_kept, operand_kept, pair_kept, align_kept}
+use Rattle.ir_writer.proofs.Kept.{operand_kept, pair_kept, align_kept}
 use Rattle.ir_writer.proofs.Quoted.{name_back}
 use Rattle.ir_writer.proofs.Walking.{goes}
 use Rattle.ir_writer.proofs.WalkedParts.{Through, nothing, spaced, keeps, drops, then_on, Begins, begun, Said}
@@ -75,23 +71,6 @@ module _ (names : List (List ℕ)) (are : AreNames names) (places : Places) wher
       Through (sym.OneScalar ∷ sym.Operand ∷ sym.Comma ∷ sym.Operand ∷ next) (pair names ty a b) (pair_kept names ty a b) next
   pair_through ty a b one other next =
       keeps (scalar_shape ty) refl refl (spaced (then_on (operand_through ty a one (sym.Comma ∷ sym.Operand ∷ next)) (drops refl refl refl (spaced (operand_through ty b other next)))))
-
--- ---- integers at a type
-
-truth_number : (n : ℕ) (next : List Symbol) → Through (sym.Number ∷ next) (integer I1 n ∷ []) (integer_kept I1 n ∷ []) next
-truth_number n next = by_test (n == 0)
-  where
-    by_test : (b : Bool) → Through (sym.Number ∷ next) (word (if b then codes "false" else codes "true") ∷ []) ((if b then (is.Value val.False, codes "false") else (is.Value val.True, codes "true")) ∷ []) next
-    by_test true = keeps refl refl refl (nothing next)
-    by_test false = keeps refl refl refl (nothing next)
-
-pub number_through : (s : Scalar) (n : ℕ) (next : List Symbol) → Through (sym.Number ∷ next) (integer s n ∷ []) (integer_kept s n ∷ []) next
-number_through I1 n next = truth_number n next
-number_through I8 n next = keeps refl refl refl (nothing next)
-number_through I16 n next = keeps refl refl refl (nothing next)
-number_through I32 n next = keeps refl refl refl (nothing next)
-number_through I64 n next = keeps refl refl refl (nothing next)
-number_through Ptr n next = keeps refl refl refl (nothing next)
 
 -- ---- alignments
 

@@ -9,11 +9,14 @@ use Rattle.ir_types.specs.declared.scalar.Scalar.{Scalar}
 use Rattle.ir_types.specs.declared.scalar.Scalar.TheVariants.{I1, I8, I16, I32, I64, Ptr}
 use Rattle.ir_types.specs.declared.shape.Ty.{Ty}
 use Rattle.ir_types.specs.declared.shape.Ty.TheOpen.{Ty-F}
+use Rattle.ir_grammar.specs.declared.shape.Digits.{Digits}
 use Rattle.ir_grammar.specs.declared.shape.Shape.TheVariants as is
 use Rattle.ir_grammar.specs.declared.shape.Value.TheVariants as val
+use Rattle.ir_grammar.specs.declared.symbol.Keep.TheVariants as keep
 use Rattle.ir_grammar.specs.declared.symbol.Symbol.{Symbol}
 use Rattle.ir_grammar.specs.declared.symbol.Symbol.TheVariants as sym
 use Rattle.ir_grammar.specs.Shapes.{at_shape, shape_of}
+use Rattle.ir_grammar.specs.Walk.{Taken, settle}
 use Rattle.ir_writer.specs.Names.{name_text, name_at}
 use Rattle.ir_writer.specs.Words.{Parts, space, word, comma, open_paren, close_paren}
 use Rattle.ir_writer.specs.Constants.{integer, symbol, address, number_at}
@@ -26,23 +29,27 @@ AreRead names = (place : ℕ) → name_of (name_text (name_at names place)) ≡ 
 
 -- ---- numbers
 
-truth_through : (n : ℕ) (next : List Symbol) → Through (sym.Constant ∷ next) (integer I1 n ∷ []) (integer_kept I1 n ∷ []) next
-truth_through n next = by_test (n == 0)
-  where
-    by_test : (b : Bool) → Through (sym.Constant ∷ next) (word (if b then codes "false" else codes "true") ∷ []) ((if b then (is.Value val.False, codes "false") else (is.Value val.True, codes "true")) ∷ []) next
-    by_test true = keeps refl refl refl (nothing next)
-    by_test false = keeps refl refl refl (nothing next)
+-- an integer at a symbol that takes integers, true and false
+module _ (symbol : Symbol) (next : List Symbol) (digits : (d : Digits) → settle (is.Int d) false (symbol ∷ next) ≡ Taken keep.Keeps next)
+    (yes_taken : settle (is.Value val.True) false (symbol ∷ next) ≡ Taken keep.Keeps next) (no_taken : settle (is.Value val.False) false (symbol ∷ next) ≡ Taken keep.Keeps next) where
+  integer_taken : (s : Scalar) (n : ℕ) → Through (symbol ∷ next) (integer s n ∷ []) (integer_kept s n ∷ []) next
+  integer_taken I1 n = by_test (n == 0)
+    where
+      by_test : (b : Bool) → Through (symbol ∷ next) (word (if b then codes "false" else codes "true") ∷ []) ((if b then (is.Value val.False, codes "false") else (is.Value val.True, codes "true")) ∷ []) next
+      by_test true = keeps refl refl no_taken (nothing next)
+      by_test false = keeps refl refl yes_taken (nothing next)
+  integer_taken I8 n = keeps refl refl (digits _) (nothing next)
+  integer_taken I16 n = keeps refl refl (digits _) (nothing next)
+  integer_taken I32 n = keeps refl refl (digits _) (nothing next)
+  integer_taken I64 n = keeps refl refl (digits _) (nothing next)
+  integer_taken Ptr n = keeps refl refl (digits _) (nothing next)
 
-pub integer_through : (s : Scalar) (n : ℕ) (next : List Symbol) → Through (sym.Constant ∷ next) (integer s n ∷ []) (integer_kept s n ∷ []) next
-integer_through I1 n next = truth_through n next
-integer_through I8 n next = keeps refl refl refl (nothing next)
-integer_through I16 n next = keeps refl refl refl (nothing next)
-integer_through I32 n next = keeps refl refl refl (nothing next)
-integer_through I64 n next = keeps refl refl refl (nothing next)
-integer_through Ptr n next = keeps refl refl refl (nothing next)
+-- as a count, an index or a case
+pub count_through : (s : Scalar) (n : ℕ) (next : List Symbol) → Through (sym.Number ∷ next) (integer s n ∷ []) (integer_kept s n ∷ []) next
+count_through s n next = integer_taken sym.Number next (λ d. refl) refl refl s n
 
 pub number_through : (t : Ty-F Ty) (n : ℕ) (next : List Symbol) → Through (sym.Constant ∷ next) (number_at t n) (number_kept t n) next
-number_through (Ty-F.One s) n next = integer_through s n next
+number_through (Ty-F.One s) n next = integer_taken sym.Constant next (λ d. refl) refl refl s n
 number_through (Ty-F.Array count element) n next = keeps refl refl refl (nothing next)
 number_through (Ty-F.Struct fields) n next = keeps refl refl refl (nothing next)
 

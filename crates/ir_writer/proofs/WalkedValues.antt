@@ -28,15 +28,16 @@ use Rattle.ir_writer.proofs.WalkedParts.{Through, nothing, spaced, keeps, drops,
 use Rattle.ir_writer.proofs.WalkedWords.{scalar_shape, pred_shape}
 use Rattle.ir_writer.proofs.WalkedDigits.{power_taken}
 use Rattle.ir_writer.proofs.WalkedTypes.{type_through}
+use Rattle.ir_writer.proofs.WalkedSingles.{count_through}
 use Rattle.ir_writer.proofs.WalkedQuiet.{past_trailers, past_alloca_more, past_gep_indices}
-use Rattle.ir_writer.proofs.WalkedOperands.{AreNames, operand_through, pair_through, number_through, align_said}
+use Rattle.ir_writer.proofs.WalkedOperands.{AreNames, operand_through, pair_through, align_said}
 use Rattle.ir_writer.proofs.WalkedFlags.{nneg_through, bin_through}
 
 -- ---- counts, flags and types
 
 -- A count is written as `i64 n`, unless it is 1.
-count_through : (count : ℕ) (align : Option ℕ) → IsAlign align → (others : List Symbol) → Said (sym.AllocaMore ∷ others) (count_parts count ++ align_parts align) (count_kept count ++ align_kept align) others
-count_through count align formed others = by_test (count == 1)
+counted_said : (count : ℕ) (align : Option ℕ) → IsAlign align → (others : List Symbol) → Said (sym.AllocaMore ∷ others) (count_parts count ++ align_parts align) (count_kept count ++ align_kept align) others
+counted_said count align formed others = by_test (count == 1)
   where
     alone : (align : Option ℕ) → IsAlign align → Said (sym.AllocaMore ∷ others) (align_parts align) (align_kept align) others
     alone None formed = record { left = sym.AllocaMore ∷ others; through = nothing (sym.AllocaMore ∷ others); quiet = past_alloca_more others }
@@ -52,7 +53,7 @@ count_through count align formed others = by_test (count == 1)
         let behind = align_said align formed others in
         record {
           left = behind.left;
-          through = drops refl refl refl (spaced (keeps refl refl refl (spaced (then_on (number_through I64 count (sym.AlignTrailers ∷ others)) behind.through))));
+          through = drops refl refl refl (spaced (keeps refl refl refl (spaced (then_on (count_through I64 count (sym.AlignTrailers ∷ others)) behind.through))));
           quiet = behind.quiet;
         }
 
@@ -143,7 +144,7 @@ module _ (names : List (List ℕ)) (are : AreNames names) (places : Places) wher
   pub alloca_said : (ty : Ty) (count : ℕ) (align : Option ℕ) → is_type_in_range ty ≡ true → IsAlign align → (next : List Symbol) →
       Said (sym.NamedInst ∷ next) (inst_parts names (inst.Alloca ty count align)) (inst_kept names (inst.Alloca ty count align)) (sym.Insts ∷ next)
   alloca_said ty count align range formed next =
-      let behind = count_through count align formed (sym.Insts ∷ next) in
+      let behind = counted_said count align formed (sym.Insts ∷ next) in
       record { left = behind.left; through = keeps refl refl refl (spaced (then_on (type_through ty range (sym.AllocaMore ∷ sym.Insts ∷ next)) behind.through)); quiet = behind.quiet }
 
   pub load_said : (ty : Scalar) (at : Operand) (align : Option ℕ) → FormedInst places (inst.Load ty at align) → (next : List Symbol) →
