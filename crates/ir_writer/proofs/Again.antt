@@ -62,7 +62,7 @@ use Rattle.ir_writer.proofs.ModuleBack.{module_back, module-symbols}
 each_of : {X : Type 0} (P Q : X → Type 0) (f : (x : X) → P x → Q x) (xs : List X) → All P xs → All Q xs
 each_of P Q f xs h = λ k d lt. f (get_or xs k d) (h k d lt)
 
-are_bytes : (m : Module) → InRange m → All AreBytes (item_names m)
+pub are_bytes : (m : Module) → InRange m → All AreBytes (item_names m)
 are_bytes m range = All-map AreBytes item_name m.items (each_of ItemInRange (λ i. AreBytes (item_name i)) item-bytes m.items range.items)
 
 by_name : (found : AtName) → found ≢ at.Debug → is_debug found ≡ false
@@ -74,7 +74,7 @@ by_name at.Other other = refl
 no_debug_item : (items : List Item) (i : Item) → FormedItem items i → is_debug (at_shape (item_name i)) ≡ false
 no_debug_item items i h = by_name (at_shape (item_name i)) (no-debug (item_name i) (item-declarable items i h))
 
-are_plain : (m : Module) → Formed m → All (λ name. is_debug (at_shape name) ≡ false) (item_names m)
+pub are_plain : (m : Module) → Formed m → All (λ name. is_debug (at_shape name) ≡ false) (item_names m)
 are_plain m formed =
     All-map (λ name. is_debug (at_shape name) ≡ false) item_name m.items
     (each_of (FormedItem m.items) (λ i. is_debug (at_shape (item_name i)) ≡ false) (no_debug_item m.items) m.items formed.has_items)

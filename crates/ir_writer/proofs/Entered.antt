@@ -1,5 +1,5 @@
 -- The tokens of a module split into its entities, where the grammar takes its types, constants and lines.
-use Rattle.std.proofs.Common.{◌≡◌, ℕ, true, false, is_some, List, [], ◌∷◌, length, slice_index_or, Option, Some, None, IfSome, All}
+use Rattle.std.proofs.Common.{◌≡◌, ℕ, true, false, is_some, List, [], ◌∷◌, length, Option, Some, None, IfSome, All}
 use Rattle.std.specs.Prelude.{IsTrue}
 use Rattle.std.proofs.lemmas.List.Sums.{AllPass-from_list_all}
 use Rattle.ir_types.specs.declared.shape.Ty.{Ty}
@@ -41,8 +41,8 @@ use Rattle.ir_writer.proofs.Split.{module_entities, module_splits}
 pub record ValuesGo (names : List (List ℕ)) (items : ℕ) : Type 0 where
   pub ty : (ty : Ty) → IsTrue (is_type_in_range ty) → TypeGoes ty
   pub constant : (ty : Ty) (c : Const) → Suits items ty c → IsTrue (is_type_in_range ty) → IsTrue (is_constant_in_range c) → ConstantGoes names ty c
-  pub plain_ty : (ty : Ty) → IsPlain (type_parts ty)
-  pub plain_constant : (ty : Ty) (c : Const) → IsPlain (constant_parts names c ty)
+  pub plain_ty : (ty : Ty) → IsTrue (is_type_in_range ty) → IsPlain (type_parts ty)
+  pub plain_constant : (ty : Ty) (c : Const) → Suits items ty c → IsTrue (is_type_in_range ty) → IsPlain (constant_parts names c ty)
 
 -- And of the lines of a body with these places.
 pub record LinesGo (names : List (List ℕ)) (places : Places) : Type 0 where
@@ -52,9 +52,9 @@ pub record LinesGo (names : List (List ℕ)) (places : Places) : Type 0 where
   pub effect : (i : Inst) → FormedInst places i → IsTrue (is_inst_in_range i) → is_some (result_type i) ≡ false →
       (next : List Symbol) → Takes (symbol.Insts ∷ next) (spellings_of (inst_parts names i)) (inst_kept names i) (symbol.Insts ∷ next)
   pub term : (t : Term) → FormedTerm places t → IsTrue (is_term_in_range t) → TermGoes names t
-  pub plain_phi : (phi : Phi) → IsPlain (phi_parts names phi)
-  pub plain_inst : (i : Inst) → IsPlain (inst_parts names i)
-  pub plain_term : (t : Term) → IsPlain (term_parts names t)
+  pub plain_phi : (phi : Phi) → FormedPhi places phi → IsPlain (phi_parts names phi)
+  pub plain_inst : (i : Inst) → FormedInst places i → IsTrue (is_inst_in_range i) → IsPlain (inst_parts names i)
+  pub plain_term : (t : Term) → FormedTerm places t → IsPlain (term_parts names t)
 
 -- ---- blocks
 
@@ -69,8 +69,12 @@ module _ (names : List (List ℕ)) (apart : NoDebug names) (places : Places) (kn
     term = known.term block.term formed.term range.term;
   }
 
-  block_plain : (block : Block) → PlainBlock names block
-  block_plain block = record { phis = λ k d less. known.plain_phi (slice_index_or block.phis k d); insts = λ k d less. known.plain_inst (slice_index_or block.insts k d); term = known.plain_term block.term }
+  block_plain : (block : Block) → FormedBlock places block → BlockInRange block → PlainBlock names block
+  block_plain block formed range = record {
+    phis = λ k d less. known.plain_phi _ (formed.phis k d less);
+    insts = λ k d less. known.plain_inst _ (formed.insts k d less) (AllPass-from_list_all is_inst_in_range block.insts range.insts k d less);
+    term = known.plain_term block.term formed.term;
+  }
 
 -- ---- items
 
@@ -79,25 +83,25 @@ module _ (names : List (List ℕ)) (apart : NoDebug names) (items : List Item) (
   init_goes ty None small suit range = tt
   init_goes ty (Some c) small suit range = values.constant ty c suit small range
 
-  init_plain : (ty : Ty) (init : Option Const) → IfSome init (λ c. IsPlain (constant_parts names c ty))
-  init_plain ty None = tt
-  init_plain ty (Some c) = values.plain_constant ty c
+  init_plain : (ty : Ty) (init : Option Const) → IsTrue (is_type_in_range ty) → IfSome init (λ c. Suits (length items) ty c) → IfSome init (λ c. IsPlain (constant_parts names c ty))
+  init_plain ty None small suit = tt
+  init_plain ty (Some c) small suit = values.plain_constant ty c suit small
 
   body_goes : (params : ℕ) (body : Option Body) → IfSome body (FormedBody items params) → IfSome body (λ b. All BlockInRange b.blocks) → IfSome body (λ b. All (BlockGoes names) b.blocks)
   body_goes params None formed range = tt
   body_goes params (Some body) formed range = λ k d less. block_goes names apart (places_of items params body) (lines params body) _ (formed.has_blocks k d less) (range k d less)
 
-  body_plain : (params : ℕ) (body : Option Body) → IfSome body (λ b. All (PlainBlock names) b.blocks)
-  body_plain params None = tt
-  body_plain params (Some body) = λ k d less. block_plain names apart (places_of items params body) (lines params body) (slice_index_or body.blocks k d)
+  body_plain : (params : ℕ) (body : Option Body) → IfSome body (FormedBody items params) → IfSome body (λ b. All BlockInRange b.blocks) → IfSome body (λ b. All (PlainBlock names) b.blocks)
+  body_plain params None formed range = tt
+  body_plain params (Some body) formed range = λ k d less. block_plain names apart (places_of items params body) (lines params body) _ (formed.has_blocks k d less) (range k d less)
 
   item_goes : (i : Item) → FormedItem items i → ItemInRange i → ItemGoes names i
   item_goes (item.Var var) formed range = record { has_type = values.ty var.ty range.1; has_init = init_goes var.ty var.init range.1 formed.suits range.2 }
   item_goes (item.Func func) formed range = body_goes (length func.params) func.body formed.has_body range.1
 
-  item_plain : (i : Item) → PlainItem names i
-  item_plain (item.Var var) = (values.plain_ty var.ty, init_plain var.ty var.init)
-  item_plain (item.Func func) = body_plain (length func.params) func.body
+  item_plain : (i : Item) → FormedItem items i → ItemInRange i → PlainItem names i
+  item_plain (item.Var var) formed range = (values.plain_ty var.ty range.1, init_plain var.ty var.init range.1 formed.suits)
+  item_plain (item.Func func) formed range = body_plain (length func.params) func.body formed.has_body range.1
 
 -- ---- the module
 
@@ -107,4 +111,4 @@ module_is_split m formed range values lines =
     let apart = no_debug m formed range in
     module_splits m formed range
     (λ k d less. item_goes (item_names m) apart m.items values lines _ (formed.has_items k d less) (range.items k d less))
-    (λ k d less. item_plain (item_names m) apart m.items values lines (slice_index_or m.items k d))
+    (λ k d less. item_plain (item_names m) apart m.items values lines _ (formed.has_items k d less) (range.items k d less))

@@ -76,3 +76,4 @@ pub mod WalkedValues
 pub mod WalkedVoid
 pub mod WalkedWords
 pub mod Walking
+pub mod Whole

@@ -1,5 +1,5 @@
 -- The grammar takes the tokens of operands and alignments.
-use Rattle.std.proofs.Common.{◌≡◌, ℕ, zero, suc, Bool, true, false, List, [], ◌∷◌, length, Option, Some, None, refl, ◌<◌, arith}
+use Rattle.std.proofs.Common.{◌≡◌, ℕ, zero, suc, false, List, [], ◌∷◌, length, Option, Some, None, refl, ◌<◌, arith}
 use Rattle.std.specs.Prelude.{All}
 use Rattle.std.proofs.lemmas.List.Elements.{All-nil, All-head, All-tail}
 use Rattle.ir_lexer.specs.Written.{spellings_of}
@@ -8,8 +8,6 @@ use Rattle.ir_types.specs.declared.shape.Ty.TheBlock.{One}
 use Rattle.ir_syntax.specs.declared.constant.Operand.{Operand}
 use Rattle.ir_syntax.specs.declared.constant.Operand.TheVariants as operand
 use Rattle.ir_syntax.specs.FormedBody.{Places, IsOperand, IsAlign}
-use Rattle.ir_grammar.specs.declared.shape.AtName.{AtName}
-use Rattle.ir_grammar.specs.declared.shape.AtName.TheVariants as at_name
 use Rattle.ir_grammar.specs.declared.shape.Shape.TheVariants as is
 use Rattle.ir_grammar.specs.declared.symbol.Symbol.{Symbol}
 use Rattle.ir_grammar.specs.declared.symbol.Symbol.TheVariants as sym
@@ -20,6 +18,7 @@ use Rattle.ir_writer.specs.Ranges.{AreBytes}
 use Rattle.ir_writer.proofs.Kept.{operand_kept, pair_kept, align_kept}
 use Rattle.ir_writer.proofs.Quoted.{name_back}
 use Rattle.ir_writer.proofs.Walking.{goes}
+use Rattle.ir_writer.proofs.LinesOperands.{is_debug}
 use Rattle.ir_writer.proofs.WalkedParts.{Through, nothing, spaced, keeps, drops, then_on, Begins, begun, Said}
 use Rattle.ir_writer.proofs.WalkedWords.{scalar_shape}
 use Rattle.ir_writer.proofs.WalkedDigits.{power_taken}
@@ -29,10 +28,6 @@ use Rattle.ir_writer.proofs.WalkedConstants.{constant_through}
 use Rattle.ir_writer.proofs.WalkedQuiet.{past_trailers, past_align_trailers}
 
 -- ---- names
-
-abbrev pub is_debug : AtName → Bool
-is_debug at_name.Debug = true
-is_debug _ = false
 
 -- Each name is read as itself, and none is one of debug information.
 pub record AreNames (names : List (List ℕ)) : Type 0 where

@@ -36,12 +36,13 @@ use Rattle.ir_writer.specs.Words.{Parts, space, open_paren, close_paren, listed,
 use Rattle.ir_writer.specs.Constants.{constant_step, constant_parts}
 use Rattle.ir_writer.specs.Instructions.{operand_parts, is_whole, whole_parts, arg_parts, call_parts, inst_parts}
 use Rattle.ir_writer.proofs.Kept.{Lexemes, joined, close_paren_kept, operand_kept, whole_kept, arg_kept, ext_kept, call_returned_kept, call_kept, inst_kept, constant_kept_step, constant_kept}
+use Rattle.ir_writer.proofs.LinesOperands.{is_debug}
 use Rattle.ir_writer.proofs.WalkedParts.{Through, through_as, nothing, spaced, keeps, drops, passes, then_on, Said}
 use Rattle.ir_writer.proofs.WalkedWords.{scalar_shape}
 use Rattle.ir_writer.proofs.WalkedSingles.{name_shape, address_through}
 use Rattle.ir_writer.proofs.WalkedConstants.{parts_at, kept_at, suits_at}
 use Rattle.ir_writer.proofs.WalkedQuiet.{past_call}
-use Rattle.ir_writer.proofs.WalkedOperands.{is_debug, AreNames, operand_through, align_said}
+use Rattle.ir_writer.proofs.WalkedOperands.{AreNames, operand_through, align_said}
 use Rattle.ir_writer.proofs.WalkedCalls.{whole_through, args_through}
 
 -- ---- the callee
