@@ -47,7 +47,7 @@ define i32 @f(i32 %x, ptr %p, i1 %c, i8 %"b b", i64 %9) {
   call void (i32) @v(ptr %p)
   call zeroext i64 %p()
   notail call void %p(ptr @f, i32 signext %x)
-  #dbg_value(ptr %p, !7, !DIExpression({(}), !8)
+  #dbg_value(ptr %p, !7, !DIExpression({), !8)
   call void @llvm.dbg.value(metadata i32 %x, metadata !1, metadata !DIExpression())
   tail call void @llvm.lifetime.start.p0(i64 4, ptr %p), !dbg !9
   #dbg_declare{ }
