@@ -1,8 +1,8 @@
 #!/usr/bin/env bash
 # Reads modules of growing size and of many shapes and writes them again, and prints what the program says, time and peak
-# memory, and the time of reading alone; beside it the time of `opt -S` on the same file, where that tool is there and takes the file. Shapes: many symbols,
-# lines of metadata, one long c"..", one long array of bytes, a chain of named types, and bodies of every kind of
-# instruction. The sizes are 1, 4 and near 16 MiB.
+# memory, and the time of reading alone; beside it the time of `opt -S` on the same file, where that tool is there and
+# takes the file. Shapes: many symbols, lines of metadata, one long c"..", one long array of bytes, a chain of named
+# types, and bodies of every kind of instruction. The sizes are 1, 4 and near 16 MiB.
 set -eu
 top=$(cd "$(dirname "$0")/.." && pwd)
 program="$top/crates/modules_bench/out/modules_bench"
