@@ -65,14 +65,20 @@ fn scope_of(alloc: Global, ty: Ty, symbol: &[u8]) -> Result<Scope, OutOfMemory> 
     Scope::first_of(alloc, types, symbols)
 }
 
+fn is_pair_of_pointers(ty: &Ty) -> bool {
+    match ty {
+        Ty::Array(count, element) => *count == 2 && same_type(element.get(), &Ty::One(Scalar::Ptr)),
+        Ty::One(_) => false,
+        Ty::Struct(_) => false,
+    }
+}
+
 /// Whether the array is read as one of two pointers.
-fn is_pair_of_pointers(alloc: Global, scope: &Scope) -> Result<bool, OutOfMemory> {
+fn reads_pair(alloc: Global, scope: &Scope) -> Result<bool, OutOfMemory> {
     let kept = array_of_name();
     match read_type(alloc, scope, &kept)? {
-        Some((Ty::Array(count, element), taken)) => {
-            Ok(count == 2 && taken == 3 && same_type(element.get(), &Ty::One(Scalar::Ptr)))
-        }
-        _ => Ok(false),
+        Some((ty, taken)) => Ok(taken == 3 && is_pair_of_pointers(&ty)),
+        None => Ok(false),
     }
 }
 
@@ -85,7 +91,7 @@ fn look_ups(rt: HostRuntime) -> Result<(), Fail> {
     assert!(rt; scope.lookup_type(b"t").is_some());
     assert!(rt; scope.is_intrinsic(0));
     assert!(rt; scope.symbol_count() == 1);
-    assert!(rt; is_pair_of_pointers(alloc, &scope)?);
+    assert!(rt; reads_pair(alloc, &scope)?);
     same_type_is_equality();
     Ok(())
 }
