@@ -2,6 +2,7 @@ pub mod Again
 pub mod BodiesBack
 pub mod BodiesLines
 pub mod Bytes
+pub mod CallTexts
 pub mod ConstantTexts
 pub mod Digits
 pub mod Entered
@@ -16,6 +17,7 @@ pub mod EnteredPlain
 pub mod EnteredSteps
 pub mod EnteredVariables
 pub mod Goes
+pub mod ItemTexts
 pub mod ItemsAligned
 pub mod ItemsBack
 pub mod ItemsFuncs
@@ -25,6 +27,7 @@ pub mod ItemsParamsBack
 pub mod ItemsSymbols
 pub mod ItemsVars
 pub mod Kept
+pub mod LineTexts
 pub mod LinesAligns
 pub mod LinesBack
 pub mod LinesCalls

@@ -3,7 +3,7 @@ ghost use Rattle.std.specs.Prelude.{◌≡◌, ◌++◌, OnOk, map};
 ghost use Rattle.std.specs.Fmt.{decimal};
 ghost use Rattle.ir_lexer.specs.Written.{bytes_of};
 ghost use Rattle.ir_syntax.specs.FormedBody.{IsAlign, item_name};
-ghost use Rattle.ir_writer.specs.Instructions.{operand_parts, typed, pair, align_parts};
+ghost use Rattle.ir_writer.specs.Instructions.{operand_parts, typed, pair, jump, align_parts};
 
 use crate::constants::write_constant;
 use crate::words::{scalar_word, write_decimal};
@@ -62,6 +62,14 @@ pub fn write_pair(
     write_typed(out, items, ty, a)?;
     out.append(b", ")?;
     write_operand(out, items, ty, b)
+}
+
+/// Adds a block to go to.
+pub fn write_jump(out: &mut Bytes, place: usize) -> Result<(), OutOfMemory>
+    ensures { OnOk result (out.new ≡ out.old ++ bytes_of (jump place)) }
+{
+    out.append(b"label ")?;
+    write_local(out, b"%b", place)
 }
 
 /// Adds an alignment behind a comma, where there is one. It is the exponent of two.
