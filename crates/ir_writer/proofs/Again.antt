@@ -1,6 +1,6 @@
 -- A written module is read again: what was shown of types, constants, lines and items put together.
-use Rattle.std.proofs.Common.{◌≡◌, ◌≢◌, ◌∙◌, ℕ, zero, suc, ◌+◌, ◌<◌, ◌≤◌, ◌^◌, Bool, true, false, IsTrue, List, [], ◌∷◌, ◌++◌, length, get_or, map, Option, Some, None, Ok, refl, sym, ap, subst, arith}
-use Rattle.std.specs.Prelude.{All, AllPairs, Result}
+use Rattle.std.proofs.Common.{◌≡◌, ◌≢◌, ◌∙◌, ℕ, zero, suc, ◌<◌, ◌≤◌, ◌^◌, Bool, true, false, List, [], ◌∷◌, ◌++◌, length, get_or, Some, Ok, refl, sym, ap, subst, arith}
+use Rattle.std.specs.Prelude.{All, AllPairs}
 use Rattle.std.specs.List.{list_all}
 use Rattle.std.proofs.lemmas.List.{length-map}
 use Rattle.std.proofs.lemmas.List.Elements.{All-map, All-head, All-tail, All-cons}
@@ -28,7 +28,6 @@ use Rattle.ir_syntax.specs.FormedBody.{Places, FormedPhi, FormedInst, FormedBloc
 use Rattle.ir_syntax.specs.Results.{results, count}
 use Rattle.ir_grammar.specs.declared.shape.AtName.{AtName}
 use Rattle.ir_grammar.specs.declared.shape.AtName.TheVariants as at
-use Rattle.ir_grammar.specs.declared.shape.Shape.{Shape}
 use Rattle.ir_grammar.specs.declared.shape.Shape.TheVariants as is
 use Rattle.ir_grammar.specs.Shapes.{at_shape}
 use Rattle.ir_grammar.specs.Walk.{Kept}
@@ -42,7 +41,7 @@ use Rattle.ir_writer.proofs.Kept.{module_kept, constant_kept, body_kept}
 use Rattle.ir_writer.proofs.ReadTypes.{type_back}
 use Rattle.ir_writer.proofs.ReadNumbers.{number_read}
 use Rattle.ir_writer.proofs.ReadConstants.{constant_back}
-use Rattle.ir_writer.proofs.NamesTexts.{written_params, lettered_from}
+use Rattle.ir_writer.proofs.NamesTexts.{lettered_from}
 use Rattle.ir_writer.proofs.NamesFound.{param_found, result_found, block_found}
 use Rattle.ir_writer.proofs.BodiesLines.{opens_line, PhiBack, InstBack, BlockBack}
 use Rattle.ir_writer.proofs.BodiesBack.{few_results, names_of_written, body_back}

@@ -13,7 +13,7 @@ use Rattle.ir_syntax.specs.declared.constant.Const.TheVariants.{rolls-Int, rolls
 use Rattle.ir_syntax.specs.declared.constant.Const.TheFolds.{fold-roll-Const}
 use Rattle.ir_writer.specs.Names.{quoted, name_text, name_at}
 use Rattle.ir_writer.specs.Words.{Parts, close_square, listed}
-use Rattle.ir_writer.specs.Constants.{type_parts, braced, symbol, address, number_at, typed_part, typed_fields, many_at, constant_step, constant_parts}
+use Rattle.ir_writer.specs.Constants.{type_parts, symbol, address, number_at, typed_part, typed_fields, many_at, constant_step, constant_parts}
 use Rattle.ir_writer.proofs.Bytes.{bytes_append}
 use Rattle.ir_writer.proofs.TypeTexts.{left_from, drop_here, part_written}
 

@@ -1,5 +1,5 @@
 -- The texts of parameters, functions and whole modules.
-use Rattle.std.proofs.Common.{◌≡◌, ◌∙◌, ℕ, suc, ◌+◌, ◌==◌, List, [], ◌∷◌, ◌++◌, Option, Some, None, length, drop, map, flat_map, codes, ap, sym, append_assoc, if◌then◌else◌}
+use Rattle.std.proofs.Common.{◌≡◌, ◌∙◌, ℕ, suc, ◌+◌, ◌==◌, List, [], ◌∷◌, ◌++◌, Some, None, length, drop, map, flat_map, codes, ap, sym, append_assoc, if◌then◌else◌}
 use Rattle.std.proofs.lemmas.List.{append-nil, length-map}
 use Rattle.ir_lexer.specs.Written.{bytes_of}
 use Rattle.ir_syntax.specs.declared.body.Block.{Block}
@@ -12,7 +12,6 @@ use Rattle.ir_syntax.specs.FormedBody.{item_name}
 use Rattle.ir_writer.specs.Words.{Parts, space, line_end, word, open_paren, close_paren, open_brace, close_brace, listed, returned, linkage_parts, ext_before}
 use Rattle.ir_writer.specs.Instructions.{param_text, local, dots, blocks_parts}
 use Rattle.ir_writer.specs.Modules.{target_parts, at_name, declared_param, defined_params, head_parts, func_with, item_parts, module_parts, module_text}
-use Rattle.ir_writer.proofs.Bytes.{bytes_append}
 use Rattle.ir_writer.proofs.TypeTexts.{left_from, part_written}
 use Rattle.ir_writer.proofs.CallTexts.{dots_text, dots_behind}
 use Rattle.ir_writer.proofs.LineTexts.{also}

@@ -33,7 +33,6 @@ use Rattle.ir_syntax.specs.declared.item.Item.{Item}
 use Rattle.ir_syntax.specs.declared.item.Item.TheVariants as item
 use Rattle.ir_syntax.specs.declared.item.Module.{Module}
 use Rattle.ir_syntax.specs.Results.{result_type, block_results}
-use Rattle.ir_grammar.specs.declared.shape.Shape.{Shape}
 use Rattle.ir_grammar.specs.declared.shape.Shape.TheVariants as is
 use Rattle.ir_grammar.specs.declared.shape.Free.TheVariants as free
 use Rattle.ir_grammar.specs.declared.shape.Flag.{Flag}

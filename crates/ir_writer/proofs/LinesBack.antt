@@ -1,7 +1,7 @@
 -- Lines are read again: instructions with and without the name of a result, phis and terminators.
-use Rattle.std.proofs.Common.{◌≡◌, ◌∙◌, ℕ, true, false, codes, is_some, List, [], ◌∷◌, ◌++◌, length, map, Some, option_map, refl, sym, ap, subst}
+use Rattle.std.proofs.Common.{◌≡◌, ◌∙◌, ℕ, true, codes, List, [], ◌∷◌, ◌++◌, length, map, Some, option_map, refl, sym, ap, subst}
 use Rattle.std.specs.List.{list_all}
-use Rattle.std.proofs.lemmas.Bool.{true≢false, and_parts}
+use Rattle.std.proofs.lemmas.Bool.{and_parts}
 use Rattle.ir_types.specs.declared.scalar.Scalar.{Scalar}
 use Rattle.ir_types.specs.declared.scalar.Scalar.TheVariants.{I1, Ptr}
 use Rattle.ir_syntax.specs.declared.constant.Operand.{Operand}
@@ -11,7 +11,6 @@ use Rattle.ir_syntax.specs.declared.body.Inst.TheVariants as inst
 use Rattle.ir_syntax.specs.declared.body.Phi.{Phi}
 use Rattle.ir_syntax.specs.declared.body.Term.{Term}
 use Rattle.ir_syntax.specs.declared.body.Term.TheVariants as term
-use Rattle.ir_syntax.specs.Results.{result_type}
 use Rattle.ir_syntax.specs.FormedBody.{Places, FormedInst, FormedPhi, FormedTerm}
 use Rattle.ir_grammar.specs.declared.shape.Shape.{Shape}
 use Rattle.ir_grammar.specs.declared.shape.Shape.TheVariants as is
@@ -49,18 +48,6 @@ named_back N line ks written k rest quiet =
     subst (λ qs. line_at N (named_kept k qs ++ rest) ≡ Some (line, length (named_kept k qs))) (sym written.stands) (two_more line (length written.tail) _ (written.verb rest quiet))
 
 -- ---- what follows a line that is written
-
--- A line ends before an instruction without a result,
-pub inst_quiet : (names : List (List ℕ)) (i : Inst) (rest : Lexemes) → is_some (result_type i) ≡ false → begins_quietly (inst_kept names i ++ rest) ≡ true
-inst_quiet names (inst.Bin op flags ty a b) rest none = absurd (true≢false none)
-inst_quiet names (inst.Icmp pred ty a b) rest none = absurd (true≢false none)
-inst_quiet names (inst.Select ty cond a b) rest none = absurd (true≢false none)
-inst_quiet names (inst.Cast op nneg from to a) rest none = absurd (true≢false none)
-inst_quiet names (inst.Alloca ty count align) rest none = absurd (true≢false none)
-inst_quiet names (inst.Load ty at align) rest none = absurd (true≢false none)
-inst_quiet names (inst.Store ty value at align) rest none = refl
-inst_quiet names (inst.Gep inbounds ty base indices) rest none = absurd (true≢false none)
-inst_quiet names (inst.Call fn_ty ret_ext callee args) rest none = refl
 
 -- and before a terminator. (It does before the name of a result, as that computes.)
 pub term_quiet : (names : List (List ℕ)) (t : Term) (rest : Lexemes) → begins_quietly (term_kept names t ++ rest) ≡ true

@@ -24,7 +24,6 @@ use Rattle.ir_grammar.specs.declared.shape.Shape.TheVariants as is
 use Rattle.ir_grammar.specs.declared.shape.Value.TheVariants as val
 use Rattle.ir_grammar.specs.Shapes.{at_shape}
 use Rattle.ir_scope.specs.Runs.{begins_with}
-use Rattle.ir_locals.specs.declared.local.Local.TheVariants.{Param, Reg}
 use Rattle.ir_body.specs.Operands.{Names, inbounds_at}
 use Rattle.ir_body.specs.Calls.{ext_at, whole_at, callee_at, void_callee_at}
 use Rattle.ir_writer.specs.Names.{name_at}

@@ -147,9 +147,6 @@ module _ (m : Module) (formed : Formed m) (range : InRange m) where
   pub module-symbols : symbols_of (module_kept m) ≡ item_names m
   module-symbols = targets-symbols m.layout m.triple (kept_items (item_names m) m.items) ∙ symbols-are (item_names m) m.items named
 
-  pub module-no-types : named_types (module_kept m) ≡ []
-  module-no-types = targets-types m.layout m.triple (kept_items (item_names m) m.items) ∙ no-types (item_names m) m.items
-
   module _ (types : TypesBack (env_of (module_kept m))) (constants : ConstantsBack (env_of (module_kept m)) (item_names m) m.items) (bodies : BodiesBack (env_of (module_kept m)) (item_names m) m.items) where
     found : AreFound (env_of (module_kept m)) (item_names m) 0 m.items
     found k d within =

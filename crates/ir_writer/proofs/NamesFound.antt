@@ -5,9 +5,8 @@ use Rattle.std.proofs.lemmas.List.{append-nil}
 use Rattle.std.proofs.lemmas.Slice.Eq.{bytes_eq-Decides}
 use Rattle.std.proofs.lemmas.Fmt.{decimal_injective}
 use Rattle.std.proofs.lemmas.Bool.{cond-true, cond-false, false_from_ne_true}
-use Rattle.ir_syntax.specs.declared.constant.Operand.TheVariants as operand
 use Rattle.ir_locals.specs.declared.local.Local.TheVariants.{Param, Reg, Block}
-use Rattle.ir_locals.specs.Locals.{Local, local_name, numbered, local_among, operand_in, block_in}
+use Rattle.ir_locals.specs.Locals.{Local, local_name, numbered, local_among}
 use Rattle.ir_writer.specs.Instructions.{param_text, result_text, block_text}
 use Rattle.ir_writer.proofs.NamesTexts.{lettered, lettered_from, written_results, written_blocks, written_locals, param_name, reg_name, block_name}
 
@@ -73,12 +72,3 @@ module _ (n r b : ℕ) where
       ∙ found_behind Reg 98 118 0 r (0 + k) (numbered Block 0 (written_blocks b)) (λ i j. refl)
       ∙ ap (λ ls. local_among ls (lettered 98 (0 + k))) (sym (append-nil (numbered Block 0 (written_blocks b))))
       ∙ found_here Block 98 0 b k [] within (omega arith) ∙ ap (λ i. Some (Block i)) e
-
-  pub param_operand : (k : ℕ) → k < n → n < 2 ^ 64 → operand_in (local_among (written_locals n r b) (local_name (param_text k))) ≡ Some (operand.Param k)
-  param_operand k within small = ap operand_in (param_found k within small)
-
-  pub result_operand : (k : ℕ) → k < r → r < 2 ^ 64 → operand_in (local_among (written_locals n r b) (local_name (result_text k))) ≡ Some (operand.Reg k)
-  result_operand k within small = ap operand_in (result_found k within small)
-
-  pub block_place : (k : ℕ) → k < b → b < 2 ^ 64 → block_in (local_among (written_locals n r b) (local_name (block_text k))) ≡ Some k
-  block_place k within small = ap block_in (block_found k within small)

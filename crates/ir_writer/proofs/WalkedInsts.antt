@@ -15,19 +15,18 @@ use Rattle.ir_syntax.specs.Results.{result_type}
 use Rattle.ir_grammar.specs.declared.shape.Shape.TheVariants as is
 use Rattle.ir_grammar.specs.declared.symbol.Symbol.{Symbol}
 use Rattle.ir_grammar.specs.declared.symbol.Symbol.TheVariants as sym
-use Rattle.ir_grammar.specs.Walk.{Kept}
 use Rattle.ir_writer.specs.Instructions.{inst_parts, phi_parts, term_parts}
 use Rattle.ir_writer.specs.Ranges.{is_type_in_range, is_operand_in_range, is_inst_in_range}
 use Rattle.ir_writer.proofs.Kept.{inst_kept, phi_kept, term_kept}
 use Rattle.ir_writer.proofs.Walking.{Takes}
 use Rattle.ir_writer.proofs.Goes.{no_records}
-use Rattle.ir_writer.proofs.WalkedParts.{Through, passes, Begins, begun_with, Said, said_takes}
+use Rattle.ir_writer.proofs.WalkedParts.{Begins, Said, said_takes}
 use Rattle.ir_writer.proofs.WalkedQuiet.{past_trailers}
 use Rattle.ir_writer.proofs.WalkedOperands.{AreNames}
 use Rattle.ir_writer.proofs.WalkedValues.{bin_said, icmp_said, select_said, cast_through, alloca_said, load_said, gep_said}
 use Rattle.ir_writer.proofs.WalkedCalls.{call_said}
-use Rattle.ir_writer.proofs.WalkedVoid.{store_said, void_call_said, first_void_call_said}
-use Rattle.ir_writer.proofs.WalkedLines.{phi_said, term_said, first_term_said}
+use Rattle.ir_writer.proofs.WalkedVoid.{store_said, void_call_said}
+use Rattle.ir_writer.proofs.WalkedLines.{phi_said, term_said}
 
 -- What stands behind a name stands there too where a phi might stand.
 named_begins : (next : List Symbol) → Begins (sym.NamedInst ∷ next) (sym.NamedPhi ∷ next)
@@ -51,25 +50,8 @@ module _ (names : List (List ℕ)) (are : AreNames names) (places : Places) wher
       gep_said names are places inbounds ty base indices (and_parts (is_type_in_range ty) (is_operand_in_range base) both.0).0 formed next
   named_said (inst.Call fn_ty ret_ext callee args) formed range some next = call_said names are places fn_ty ret_ext callee args some formed next
 
-  first_named : (i : Inst) (kept : List Kept) (next left : List Symbol) → Through (sym.NamedInst ∷ next) (inst_parts names i) kept left → Through (sym.NamedPhi ∷ next) (inst_parts names i) kept left
-  first_named (inst.Bin op flags ty a b) kept next left h = begun_with (named_begins next) h
-  first_named (inst.Icmp pred ty a b) kept next left h = begun_with (named_begins next) h
-  first_named (inst.Select ty cond a b) kept next left h = begun_with (named_begins next) h
-  first_named (inst.Cast op nneg from to a) kept next left h = begun_with (named_begins next) h
-  first_named (inst.Alloca ty count align) kept next left h = begun_with (named_begins next) h
-  first_named (inst.Load ty at align) kept next left h = begun_with (named_begins next) h
-  first_named (inst.Store ty value at align) kept next left h = begun_with (named_begins next) h
-  first_named (inst.Gep inbounds ty base indices) kept next left h = begun_with (named_begins next) h
-  first_named (inst.Call fn_ty ret_ext callee args) kept next left h = begun_with (named_begins next) h
-
   pub inst_takes : (i : Inst) → FormedInst places i → is_inst_in_range i ≡ true → is_some (result_type i) ≡ true → (next : List Symbol) → Takes (sym.NamedInst ∷ next) (spellings_of (inst_parts names i)) (inst_kept names i) (sym.Insts ∷ next)
   inst_takes i formed range some next = said_takes (named_said i formed range some next)
-
-  -- the same where phis might stand
-  pub first_inst_takes : (i : Inst) → FormedInst places i → is_inst_in_range i ≡ true → is_some (result_type i) ≡ true → (next : List Symbol) → Takes (sym.NamedPhi ∷ next) (spellings_of (inst_parts names i)) (inst_kept names i) (sym.Insts ∷ next)
-  first_inst_takes i formed range some next =
-      let h = named_said i formed range some next in
-      said_takes (record { left = h.left; through = first_named i (inst_kept names i) next h.left h.through; quiet = h.quiet })
 
   -- ---- instructions that have none
 
@@ -78,19 +60,8 @@ module _ (names : List (List ℕ)) (are : AreNames names) (places : Places) wher
   bare_said (inst.Call fn_ty ret_ext callee args) formed none next = void_call_said names are places fn_ty ret_ext callee args none formed next
   bare_said _ formed none next = cc
 
-  first_bare_said : (i : Inst) → FormedInst places i → is_some (result_type i) ≡ false → (next : List Symbol) → Said (sym.Phis ∷ next) (inst_parts names i) (inst_kept names i) (sym.Insts ∷ next)
-  first_bare_said (inst.Store ty value at align) formed none next =
-      let h = store_said names are places ty value at align formed next in
-      record { left = h.left; through = passes refl refl h.through; quiet = h.quiet }
-  first_bare_said (inst.Call fn_ty ret_ext callee args) formed none next = first_void_call_said names are places fn_ty ret_ext callee args none formed next
-  first_bare_said _ formed none next = cc
-
   pub bare_takes : (i : Inst) → FormedInst places i → is_some (result_type i) ≡ false → (next : List Symbol) → Takes (sym.Insts ∷ next) (spellings_of (inst_parts names i)) (inst_kept names i) (sym.Insts ∷ next)
   bare_takes i formed none next = said_takes (bare_said i formed none next)
-
-  -- the same where phis might stand
-  pub first_bare_takes : (i : Inst) → FormedInst places i → is_some (result_type i) ≡ false → (next : List Symbol) → Takes (sym.Phis ∷ next) (spellings_of (inst_parts names i)) (inst_kept names i) (sym.Insts ∷ next)
-  first_bare_takes i formed none next = said_takes (first_bare_said i formed none next)
 
   -- no token of an instruction begins a debug record
   pub inst_clean : (i : Inst) → FormedInst places i → is_inst_in_range i ≡ true → no_records (spellings_of (inst_parts names i)) ≡ true
@@ -110,10 +81,6 @@ module _ (names : List (List ℕ)) (are : AreNames names) (places : Places) wher
 
   pub term_takes : (t : Term) → FormedTerm places t → (next : List Symbol) → Takes (sym.Insts ∷ next) (spellings_of (term_parts names t)) (term_kept names t) (sym.BlockEnd ∷ next)
   term_takes t formed next = said_takes (term_said names are places t formed next)
-
-  -- the same where phis might stand
-  pub first_term_takes : (t : Term) → FormedTerm places t → (next : List Symbol) → Takes (sym.Phis ∷ next) (spellings_of (term_parts names t)) (term_kept names t) (sym.BlockEnd ∷ next)
-  first_term_takes t formed next = said_takes (first_term_said names are places t formed next)
 
   pub term_clean : (t : Term) → FormedTerm places t → no_records (spellings_of (term_parts names t)) ≡ true
   term_clean t formed = let h = term_said names are places t formed [] in h.through.clean

@@ -13,7 +13,7 @@ use Rattle.ir_grammar.specs.declared.shape.Shape.TheVariants as is
 use Rattle.ir_grammar.specs.declared.symbol.Keep.TheVariants as keep
 use Rattle.ir_grammar.specs.declared.symbol.Symbol.{Symbol}
 use Rattle.ir_grammar.specs.declared.symbol.Symbol.TheVariants as sym
-use Rattle.ir_grammar.specs.Walk.{Kept, Taken, settle}
+use Rattle.ir_grammar.specs.Walk.{Taken, settle}
 use Rattle.ir_writer.specs.Words.{close_square, listed, more}
 use Rattle.ir_writer.specs.Instructions.{entry_parts, phi_parts, case_parts, term_parts}
 use Rattle.ir_writer.proofs.Kept.{joined, close_square_kept, entry_kept, phi_kept, case_kept, term_kept}
@@ -96,16 +96,3 @@ module _ (names : List (List ℕ)) (are : AreNames names) (places : Places) wher
 
   pub term_said : (t : Term) → FormedTerm places t → (next : List Symbol) → Said (sym.Insts ∷ next) (term_parts names t) (term_kept names t) (sym.BlockEnd ∷ next)
   term_said t formed next = record { left = sym.Trailers ∷ sym.BlockEnd ∷ next; through = term_through t formed next; quiet = past_trailers (sym.BlockEnd ∷ next) }
-
-  first_term : (t : Term) (kept : List Kept) (next left : List Symbol) → Through (sym.Insts ∷ next) (term_parts names t) kept left → Through (sym.Phis ∷ next) (term_parts names t) kept left
-  first_term term.RetVoid kept next left h = passes refl refl h
-  first_term (term.Ret ty value) kept next left h = passes refl refl h
-  first_term (term.Br to) kept next left h = passes refl refl h
-  first_term (term.CondBr cond one other) kept next left h = passes refl refl h
-  first_term (term.Switch ty value default cases) kept next left h = passes refl refl h
-  first_term term.Unreachable kept next left h = passes refl refl h
-
-  -- a terminator where phis might stand
-  pub first_term_said : (t : Term) → FormedTerm places t → (next : List Symbol) → Said (sym.Phis ∷ next) (term_parts names t) (term_kept names t) (sym.BlockEnd ∷ next)
-  first_term_said t formed next =
-      record { left = sym.Trailers ∷ sym.BlockEnd ∷ next; through = first_term t (term_kept names t) next (sym.Trailers ∷ sym.BlockEnd ∷ next) (term_through t formed next); quiet = past_trailers (sym.BlockEnd ∷ next) }

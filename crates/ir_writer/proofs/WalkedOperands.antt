@@ -2,7 +2,6 @@
 use Rattle.std.proofs.Common.{◌≡◌, ℕ, zero, suc, false, List, [], ◌∷◌, length, Option, Some, None, refl, ◌<◌, arith}
 use Rattle.std.specs.Prelude.{All}
 use Rattle.std.proofs.lemmas.List.Elements.{All-nil, All-head, All-tail}
-use Rattle.ir_lexer.specs.Written.{spellings_of}
 use Rattle.ir_types.specs.declared.scalar.Scalar.{Scalar}
 use Rattle.ir_types.specs.declared.shape.Ty.TheBlock.{One}
 use Rattle.ir_syntax.specs.declared.constant.Operand.{Operand}
@@ -17,7 +16,6 @@ use Rattle.ir_writer.specs.Instructions.{operand_parts, pair, align_parts}
 use Rattle.ir_writer.specs.Ranges.{AreBytes}
 use Rattle.ir_writer.proofs.Kept.{operand_kept, pair_kept, align_kept}
 use Rattle.ir_writer.proofs.Quoted.{name_back}
-use Rattle.ir_writer.proofs.Walking.{goes}
 use Rattle.ir_writer.proofs.LinesOperands.{is_debug}
 use Rattle.ir_writer.proofs.WalkedParts.{Through, nothing, spaced, keeps, drops, then_on, Begins, begun, Said}
 use Rattle.ir_writer.proofs.WalkedWords.{scalar_shape}
@@ -57,9 +55,6 @@ module _ (names : List (List ℕ)) (are : AreNames names) (places : Places) wher
   operand_through ty (operand.Reg k) formed next = keeps refl refl refl (nothing next)
   operand_through ty (operand.Const constant) formed next =
       begun (omega arith) (operand_begins next) (constant_through names are.read (length places.items) constant (One ty) formed (one_range ty) next)
-
-  pub operand_goes : (ty : Scalar) (value : Operand) (next : List Symbol) → IsOperand places ty value → goes (sym.Operand ∷ next) (spellings_of (operand_parts names ty value)) ≡ Some (operand_kept names ty value, next)
-  operand_goes ty value next formed = (operand_through ty value formed next).gone
 
   -- T a, b
   pub pair_through : (ty : Scalar) (a b : Operand) → IsOperand places ty a → IsOperand places ty b → (next : List Symbol) →

@@ -68,17 +68,6 @@ whole_void_callee next (is.At _) calm = refl
 whole_void_callee next is.OpenParen calm = absurd (false≢true calm)
 whole_void_callee next _ calm = refl
 
-phi_void_callee : (next : List Symbol) → IsCallee (sym.PhiVoidCallee ∷ next) next
-phi_void_callee next (is.At at_name.Debug) calm = absurd (false≢true calm)
-phi_void_callee next (is.At _) calm = refl
-phi_void_callee next _ calm = refl
-
-whole_phi_void_callee : (next : List Symbol) → IsCallee (sym.WholeType ∷ sym.PhiVoidCallee ∷ next) next
-whole_phi_void_callee next (is.At at_name.Debug) calm = absurd (false≢true calm)
-whole_phi_void_callee next (is.At _) calm = refl
-whole_phi_void_callee next is.OpenParen calm = absurd (false≢true calm)
-whole_phi_void_callee next _ calm = refl
-
 name_calm : (name : AtName) → is_debug name ≡ false → is_calm (is.At name) ≡ true
 name_calm at_name.Debug calm = cc
 name_calm _ calm = refl
@@ -151,14 +140,6 @@ module _ (names : List (List ℕ)) (are : AreNames names) (places : Places) wher
       let last = sym.CallAttributes ∷ sym.Trailers ∷ sym.Insts ∷ next in
       let behind = void_callee_through sym.VoidCallee next (void_callee next) (whole_void_callee next) (is_whole fn_ty args) fn_ty callee args formed.has_callee formed.has_args in
       record { left = last; through = keeps refl refl refl (spaced (void_returned sym.CallReturn next (sym.WholeType ∷ sym.VoidCallee ∷ next) refl ret_ext fn_ty.returns none _ _ last behind)); quiet = past_call (sym.Insts ∷ next) }
-
-  -- and one where phis might stand
-  pub first_void_call_said : (fn_ty : FnType) (ret_ext : Ext) (callee : Operand) (args : List Arg) → is_some fn_ty.returns ≡ false → FormedCall places fn_ty callee args → (next : List Symbol) →
-      Said (sym.Phis ∷ next) (call_parts names fn_ty ret_ext callee args) (call_kept names fn_ty ret_ext callee args) (sym.Insts ∷ next)
-  first_void_call_said fn_ty ret_ext callee args none formed next =
-      let last = sym.CallAttributes ∷ sym.Trailers ∷ sym.Insts ∷ next in
-      let behind = void_callee_through sym.PhiVoidCallee next (phi_void_callee next) (whole_phi_void_callee next) (is_whole fn_ty args) fn_ty callee args formed.has_callee formed.has_args in
-      record { left = last; through = keeps refl refl refl (spaced (void_returned sym.PhiCallReturn next (sym.WholeType ∷ sym.PhiVoidCallee ∷ next) refl ret_ext fn_ty.returns none _ _ last behind)); quiet = past_call (sym.Insts ∷ next) }
 
   -- ---- stores
 

@@ -1,6 +1,5 @@
 -- A formed module in range is spelled by its canonical text, and no other such module has that text.
 use Rattle.std.proofs.Common.{◌≡◌, ℕ, List, length}
-use Rattle.ir_syntax.specs.declared.body.Body.{Body}
 use Rattle.ir_syntax.specs.declared.item.Module.{Module}
 use Rattle.ir_syntax.specs.Formed.{Formed}
 use Rattle.ir_syntax.specs.FormedBody.{Places, places_of}

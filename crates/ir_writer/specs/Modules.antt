@@ -2,9 +2,7 @@
 use Rattle.std.specs.Prelude.{ℕ, suc, Bool, true, false, codes, List, [], ◌∷◌, ◌++◌, map, flat_map, Option, Some, None}
 use Rattle.ir_lexer.specs.declared.token.Kind.TheVariants as kind
 use Rattle.ir_lexer.specs.Written.{Part, Spelling, bytes_of}
-use Rattle.ir_types.specs.declared.shape.Ty.{Ty}
 use Rattle.ir_syntax.specs.declared.constant.Const.{Const}
-use Rattle.ir_syntax.specs.declared.item.Linkage.{Linkage}
 use Rattle.ir_syntax.specs.declared.item.Param.{Param}
 use Rattle.ir_syntax.specs.declared.item.Var.{Var}
 use Rattle.ir_syntax.specs.declared.item.Func.{Func}

@@ -1,5 +1,5 @@
 -- Words, marks and lists of parts as they are written.
-use Rattle.std.specs.Prelude.{ℕ, Bool, true, false, codes, List, [], ◌∷◌, ◌++◌, flat_map, Option, Some, None, if◌then◌else◌}
+use Rattle.std.specs.Prelude.{ℕ, Bool, true, false, codes, List, [], ◌∷◌, ◌++◌, flat_map, Option, Some, None}
 use Rattle.ir_lexer.specs.declared.token.Kind.TheVariants as kind
 use Rattle.ir_lexer.specs.Written.{Part, Space, Spelling}
 use Rattle.ir_types.specs.declared.scalar.Scalar.{Scalar}
