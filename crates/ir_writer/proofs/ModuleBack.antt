@@ -43,10 +43,6 @@ symbols-are names (i ∷ rest) h =
     ap (λ o. cons_option o (symbols_of (kept_items names rest))) own
     ∙ ap (λ ns. item_name i ∷ ns) (symbols-are names rest (All-tail (IsNamed names) i rest h))
 
-no-types : (names : List (List ℕ)) (items : List Item) → named_types (kept_items names items) ≡ []
-no-types names [] = refl
-no-types names (i ∷ rest) = ap (λ o. cons_option o (named_types (kept_items names rest))) (item-no-type names i) ∙ no-types names rest
-
 no-layout : (names : List (List ℕ)) (items : List Item) (found : Option (List ℕ)) → layout_from found (kept_items names items) ≡ found
 no-layout names [] found = refl
 no-layout names (i ∷ rest) found = item-no-layout names i found (kept_items names rest) ∙ no-layout names rest found
@@ -66,12 +62,6 @@ targets-symbols None None es = refl
 targets-symbols None (Some triple) es = refl
 targets-symbols (Some layout) None es = refl
 targets-symbols (Some layout) (Some triple) es = refl
-
-targets-types : (layout triple : Option (List ℕ)) (es : List (List Kept)) → named_types (entities layout triple es) ≡ named_types es
-targets-types None None es = refl
-targets-types None (Some triple) es = refl
-targets-types (Some layout) None es = refl
-targets-types (Some layout) (Some triple) es = refl
 
 targets-items : (env : Env) (types : List Named) (layout triple : Option (List ℕ)) (es : List (List Kept)) (items : List Item) → items_from env types es 0 0 ≡ Ok items → items_from env types (entities layout triple es) 0 0 ≡ Ok items
 targets-items env types None None es items h = h

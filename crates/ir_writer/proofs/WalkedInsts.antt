@@ -12,7 +12,6 @@ use Rattle.ir_syntax.specs.declared.body.Inst.TheVariants as inst
 use Rattle.ir_syntax.specs.declared.body.Term.{Term}
 use Rattle.ir_syntax.specs.FormedBody.{Places, FormedInst, FormedPhi, FormedTerm}
 use Rattle.ir_syntax.specs.Results.{result_type}
-use Rattle.ir_grammar.specs.declared.shape.Shape.TheVariants as is
 use Rattle.ir_grammar.specs.declared.symbol.Symbol.{Symbol}
 use Rattle.ir_grammar.specs.declared.symbol.Symbol.TheVariants as sym
 use Rattle.ir_writer.specs.Instructions.{inst_parts, phi_parts, term_parts}
@@ -20,18 +19,13 @@ use Rattle.ir_writer.specs.Ranges.{is_type_in_range, is_operand_in_range, is_ins
 use Rattle.ir_writer.proofs.Kept.{inst_kept, phi_kept, term_kept}
 use Rattle.ir_writer.proofs.Walking.{Takes}
 use Rattle.ir_writer.proofs.Goes.{no_records}
-use Rattle.ir_writer.proofs.WalkedParts.{Begins, Said, said_takes}
+use Rattle.ir_writer.proofs.WalkedParts.{Said, said_takes}
 use Rattle.ir_writer.proofs.WalkedQuiet.{past_trailers}
 use Rattle.ir_writer.proofs.WalkedOperands.{AreNames}
 use Rattle.ir_writer.proofs.WalkedValues.{bin_said, icmp_said, select_said, cast_through, alloca_said, load_said, gep_said}
 use Rattle.ir_writer.proofs.WalkedCalls.{call_said}
 use Rattle.ir_writer.proofs.WalkedVoid.{store_said, void_call_said}
 use Rattle.ir_writer.proofs.WalkedLines.{phi_said, term_said}
-
--- What stands behind a name stands there too where a phi might stand.
-named_begins : (next : List Symbol) → Begins (sym.NamedInst ∷ next) (sym.NamedPhi ∷ next)
-named_begins next is.Phi kept_as after e = cc
-named_begins next _ kept_as after e = e
 
 module _ (names : List (List ℕ)) (are : AreNames names) (places : Places) where
   -- ---- instructions that have a result

@@ -99,12 +99,6 @@ begins_pieces one other left (piece ∷ pieces) kept shorter begins e = begins_s
 pub begun : {one other left : List Symbol} {parts : List Part} {kept : List Kept} → length left < length one → Begins one other → Through one parts kept left → Through other parts kept left
 begun {one} {other} {left} {parts} {kept} shorter begins h = record { gone = begins_pieces one other left (spellings_of parts) kept shorter begins h.gone; clean = h.clean }
 
--- the same of parts that begin with a token
-pub begun_with : {one other left : List Symbol} {kind : Kind} {text : List ℕ} {parts : List Part} {kept : List Kept} → Begins one other →
-    Through one (Spelling kind text ∷ parts) kept left → Through other (Spelling kind text ∷ parts) kept left
-begun_with {one} {other} {left} {kind} {text} {parts} {kept} begins h =
-    record { gone = begins_settled one other left (kind, text) (spellings_of parts) kept (settle (shape_of kind text) false one) refl begins h.gone; clean = h.clean }
-
 -- ---- up to a quiet token
 
 -- The tokens of the parts are taken, and then the others stand there at a quiet shape.
