@@ -11,7 +11,7 @@ use Rattle.fixed_point.specs.declared.fault.FixFault.{FixFault}
 use Rattle.fixed_point.specs.declared.fault.FixFault.TheVariants as fix
 use Rattle.ir_types.specs.declared.scalar.Known.{Known}
 use Rattle.name_table.specs.Places.{place_among}
-use Rattle.straight_form.specs.Canonical.{item_names, module_text}
+use Rattle.ir_writer.specs.Modules.{item_names, module_text}
 use Rattle.straight_plan.specs.Left.{left_module}
 use Rattle.occam_tool.specs.declared.job.Refusal.{Refusal}
 use Rattle.occam_tool.specs.declared.plan.Plan.{Plan}

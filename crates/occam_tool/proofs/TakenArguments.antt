@@ -26,7 +26,7 @@ use Rattle.straight_plan.specs.Asked.{program_items}
 use Rattle.straight_plan.specs.Residual.{residual}
 use Rattle.straight_plan.specs.Left.{IsPlan, asks_of, left_item, left_items, left_func, left_body, left_from, left_inst, left_module, size_of}
 use Rattle.name_table.specs.Places.{place_among}
-use Rattle.straight_form.specs.Canonical.{item_names}
+use Rattle.ir_writer.specs.Modules.{item_names}
 use Rattle.straight_reader.specs.Entered.{HasEntry}
 use Rattle.occam_tool.specs.Entering.{IsKnownWord, AreWords}
 

@@ -10,7 +10,7 @@ use Rattle.fixed_point.specs.declared.fault.FixFault.{FixFault}
 use Rattle.fixed_point.specs.declared.fault.FixFault.TheVariants as fix
 use Rattle.ir_types.specs.declared.scalar.Known.{Known}
 use Rattle.straight_form.specs.Form.{IsStraightForm}
-use Rattle.straight_form.specs.Canonical.{item_names, module_text}
+use Rattle.ir_writer.specs.Modules.{item_names, module_text}
 use Rattle.name_table.specs.Places.{place_among}
 use Rattle.straight_plan.specs.declared.cut.Ask.{Ask}
 use Rattle.straight_plan.specs.declared.cut.Cut.{Cut}
