@@ -19,7 +19,7 @@ use Rattle.occam_tool.specs.declared.left.Left.{Left}
 use Rattle.occam_tool.specs.Outcome.{Winnows, is_free, output_name, start_of, refusal, Reads, Leaves}
 use Rattle.occam_tool.specs.Outcome.RefusesPlan.{TooMany, TooMuch}
 use Rattle.occam_tool.specs.Outcome.Winnows.{ManifestRefused, ModuleRefused, PlanRefused, Written}
-use Rattle.occam_tool.specs.Steps.{PlanGives, ModuleGives, Put, IsLeftOf, LeftGives, LeavesAt, fault_code, CanStop, CanEnd}
+use Rattle.occam_tool.specs.Steps.{PlanGives, ModuleGives, Put, LeftGives, LeavesAt, fault_code, CanStop, CanEnd}
 
 pub can_end : (c : Code) → CanStop (Some c) → CanEnd c
 can_end code.OutOfMemory h = tt

@@ -1,7 +1,6 @@
 -- What winnowing wrote means what it was given.
-use Rattle.std.proofs.Common.{◌≡◌, ◌∙◌, ℕ, suc, ◌-◌, ◌<◌, ◌≤◌, ◌/◌, ◌^◌, ◌⊎◌, inl, inr, true, false, ℤ, pos, negsuc, List, [], ◌∷◌, map, Option, Some, None, Result, Err, All, IsTrue, length, slice_get, refl, sym, ap, subst, arith}
+use Rattle.std.proofs.Common.{◌≡◌, ◌∙◌, ℕ, ◌<◌, ◌≤◌, ◌/◌, ◌^◌, ◌⊎◌, inl, inr, true, false, List, [], ◌∷◌, map, Option, Some, None, Result, Err, All, IsTrue, length, slice_get, refl, sym, ap, subst}
 use Rattle.std.specs.Prelude.{IfSome, IsSome}
-use Rattle.std.specs.List.{AllByRecursion}
 use Rattle.std.proofs.lemmas.List.Elements.{recursion_from_All, All-from_recursion}
 use Rattle.ir_types.specs.declared.scalar.Known.{Known}
 use Rattle.occam_base.specs.declared.code.Code.{Code}
@@ -34,7 +33,7 @@ use Rattle.straight_meaning.specs.Lawful.{IsFor}
 use Rattle.occam_tool.specs.declared.job.Refusal.{Refusal}
 use Rattle.occam_tool.specs.declared.job.Report.{Report}
 use Rattle.occam_tool.specs.Entering.{IsKnownWord, AreWords}
-use Rattle.occam_tool.specs.Manifests.{IsWord, known_arg, IsSingle}
+use Rattle.occam_tool.specs.Manifests.{IsWord, known_arg}
 use Rattle.occam_tool.specs.Words.{command_of}
 use Rattle.occam_tool.specs.Lines.{answer_code}
 use Rattle.occam_tool.specs.Outcome.{Outputs, NamesModule, Reads, Winnows, RefusesManifest, RefusesModule, RefusesPlan, start_of, put_all}

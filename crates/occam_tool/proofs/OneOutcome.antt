@@ -1,5 +1,5 @@
 -- The outcome of the words is one.
-use Rattle.std.proofs.Common.{◌≡◌, ◌∙◌, ℕ, true, List, [], ◌∷◌, length, map, Option, Some, None, Result, Ok, Err, sym, ap, subst}
+use Rattle.std.proofs.Common.{◌≡◌, ◌∙◌, ℕ, List, [], ◌∷◌, length, map, Option, Some, None, Result, Ok, Err, sym, ap, subst}
 use Rattle.ir_types.specs.declared.scalar.Known.{Known}
 use Rattle.manifest.specs.declared.fault.Manifest.{Manifest}
 use Rattle.manifest.specs.Manifest.{HasManifest}

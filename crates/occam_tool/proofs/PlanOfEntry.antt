@@ -1,5 +1,5 @@
 -- The plan that was made for the entry is a plan of the module, and what it is asked for with suits it.
-use Rattle.std.proofs.Common.{◌≡◌, ◌∙◌, ℕ, true, false, List, [], ◌∷◌, slice_get, refl, sym, ap, subst}
+use Rattle.std.proofs.Common.{◌≡◌, ◌∙◌, ℕ, true, false, List, [], ◌∷◌, slice_get, sym, ap, subst}
 use Rattle.ir_types.specs.declared.scalar.Known.{Known}
 use Rattle.ir_syntax.specs.declared.item.Item.{Item}
 use Rattle.ir_syntax.specs.declared.item.Module.{Module}

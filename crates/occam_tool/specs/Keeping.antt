@@ -3,7 +3,7 @@
 use Rattle.std.specs.Prelude.{◌≡◌, ℕ, ◌≤◌, ◌/◌, ◌⊎◌, List, Option, Some, IsSome}
 use Rattle.std.specs.FinMap as map
 use Rattle.ir_types.specs.declared.scalar.Known.{Known}
-use Rattle.occam_base.specs.Files.{FileMap, file_of}
+use Rattle.occam_base.specs.Files.{FileMap}
 use Rattle.ir_syntax.specs.declared.item.Module.{Module}
 use Rattle.ir_syntax.specs.Straight.{IsStraight}
 use Rattle.ir_parser.specs.Spelled.{Spells}

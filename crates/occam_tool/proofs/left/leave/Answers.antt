@@ -1,4 +1,4 @@
-use Rattle.std.proofs.Common.{◌∙◌, List, map, sym, ap, subst}
+use Rattle.std.proofs.Common.{List, map, sym, ap, subst}
 use Rattle.ir_syntax.specs.declared.item.Module.{Module}
 use Rattle.ir_syntax.specs.FormedBody.{item_name}
 use Rattle.straight_plan.specs.Asked.{program_items}

@@ -14,6 +14,6 @@ count_instructions-requires c =
 pub write_module-requires : goal.write_module-requires
 write_module-requires c = record {
   formed =
-    left_formed c.what_is_left_is_straight.ensures.straight c.what_is_left_is_straight.ensures.names c.straight_modules_are_written.ensures.formed c.args.module.now c.args.start.now c.args.cuts.now
-    c.in_ok-left.left c.in_ok-left.ensures c.requires.straight c.requires.plain c.requires.not_named c.requires.plan c.requires.few;
+      left_formed c.what_is_left_is_straight.ensures.straight c.what_is_left_is_straight.ensures.names c.straight_modules_are_written.ensures.formed c.args.module.now c.args.start.now c.args.cuts.now
+      c.in_ok-left.left c.in_ok-left.ensures c.requires.straight c.requires.plain c.requires.not_named c.requires.plan c.requires.few;
 }
