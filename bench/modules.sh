@@ -1,8 +1,8 @@
 #!/usr/bin/env bash
-# Reads modules of growing size and of many shapes with the built reader, and prints what it says, time and peak memory;
-# beside it the time of `opt -S` on the same file, where that tool is there and takes the file. Shapes: many symbols,
-# lines of metadata, one long c"..", one long array of bytes, a chain of named types, and bodies of every kind of
-# instruction. The sizes are 1, 4 and near 16 MiB.
+# Reads modules of growing size and of many shapes and writes them again, and prints what the program says, time and peak
+# memory, and the time of reading alone; beside it the time of `opt -S` on the same file, where that tool is there and
+# takes the file. Shapes: many symbols, lines of metadata, one long c"..", one long array of bytes, a chain of named
+# types, and bodies of every kind of instruction. The sizes are 1, 4 and near 16 MiB.
 set -eu
 top=$(cd "$(dirname "$0")/.." && pwd)
 program="$top/crates/modules_bench/out/modules_bench"
@@ -73,11 +73,12 @@ bodies() { # functions of some 24 lines
 
 run() { # name file
   /usr/bin/time -f '%e s, %M KiB' "$program" "$2" 2>"$work/time" >"$work/line" || true
+  /usr/bin/time -f '%e s' "$program" read "$2" >"$work/line2" 2>"$work/alone" || true
   local beside='opt: not there'
   if command -v opt >/dev/null 2>&1; then
     if /usr/bin/time -f '%e s' opt -S "$2" -o /dev/null 2>"$work/opt"; then beside="opt: $(tail -n 1 "$work/opt")"; else beside='opt: refused'; fi
   fi
-  printf '%-12s %9d bytes  %-24s %s; %s\n' "$1" "$(wc -c <"$2")" "$(cat "$work/line")" "$(tail -n 1 "$work/time")" "$beside"
+  printf '%-9s %8d bytes  %-32s %s; read: %s; %s\n' "$1" "$(wc -c <"$2")" "$(cat "$work/line")" "$(tail -n 1 "$work/time")" "$(tail -n 1 "$work/alone")" "$beside"
 }
 for scale in 1 4 16; do
   symbols $((scale * 7500)) >"$work/module.ll" && run symbols "$work/module.ll"

@@ -11,7 +11,7 @@ use Rattle.fixed_point.specs.declared.fault.FixFault.{FixFault}
 use Rattle.fixed_point.specs.declared.fault.FixFault.TheVariants as fix
 use Rattle.ir_types.specs.declared.scalar.Known.{Known}
 use Rattle.name_table.specs.Places.{place_among}
-use Rattle.straight_form.specs.Canonical.{item_names, module_text}
+use Rattle.ir_writer.specs.Modules.{item_names, module_text}
 use Rattle.straight_plan.specs.Left.{left_module}
 use Rattle.occam_tool.specs.declared.job.Refusal.{Refusal}
 use Rattle.occam_tool.specs.declared.plan.Plan.{Plan}
@@ -19,7 +19,7 @@ use Rattle.occam_tool.specs.declared.left.Left.{Left}
 use Rattle.occam_tool.specs.Outcome.{Winnows, is_free, output_name, start_of, refusal, Reads, Leaves}
 use Rattle.occam_tool.specs.Outcome.RefusesPlan.{TooMany, TooMuch}
 use Rattle.occam_tool.specs.Outcome.Winnows.{ManifestRefused, ModuleRefused, PlanRefused, Written}
-use Rattle.occam_tool.specs.Steps.{PlanGives, ModuleGives, Put, IsLeftOf, LeftGives, LeavesAt, fault_code, CanStop, CanEnd}
+use Rattle.occam_tool.specs.Steps.{PlanGives, ModuleGives, Put, LeftGives, LeavesAt, fault_code, CanStop, CanEnd}
 
 pub can_end : (c : Code) → CanStop (Some c) → CanEnd c
 can_end code.OutOfMemory h = tt

@@ -1,27 +1,28 @@
 -- What winnowing wrote means what it was given.
-use Rattle.std.proofs.Common.{◌≡◌, ◌∙◌, ℕ, suc, ◌-◌, ◌<◌, ◌≤◌, ◌/◌, ◌^◌, ◌⊎◌, inl, inr, true, false, ℤ, pos, negsuc, List, [], ◌∷◌, map, Option, Some, None, Result, Err, All, IsTrue, length, slice_get, refl, sym, ap, subst, arith}
+use Rattle.std.proofs.Common.{◌≡◌, ◌∙◌, ℕ, ◌<◌, ◌≤◌, ◌/◌, ◌^◌, ◌⊎◌, inl, inr, true, false, List, [], ◌∷◌, map, Option, Some, None, Result, Err, All, IsTrue, length, slice_get, refl, sym, ap, subst}
 use Rattle.std.specs.Prelude.{IfSome, IsSome}
-use Rattle.std.specs.List.{AllByRecursion}
 use Rattle.std.proofs.lemmas.List.Elements.{recursion_from_All, All-from_recursion}
 use Rattle.ir_types.specs.declared.scalar.Known.{Known}
 use Rattle.occam_base.specs.declared.code.Code.{Code}
 use Rattle.occam_base.specs.declared.code.Code.TheVariants as code
 use Rattle.occam_base.specs.Files.{FileMap}
 use Rattle.ir_syntax.specs.declared.item.Module.{Module}
+use Rattle.ir_syntax.specs.Formed.{Formed}
 use Rattle.ir_syntax.specs.FormedBody.{item_name}
 use Rattle.ir_syntax.specs.Straight.{IsStraight}
 use Rattle.interface.specs.Names.{are_unknown}
 use Rattle.interface.specs.Demands.{IsFunctionFor}
 use Rattle.name_table.specs.Places.{place_among}
-use Rattle.straight_form.specs.Form.{IsStraightForm, Spells}
-use Rattle.straight_form.specs.Names.{is_plain_name, is_function_name}
-use Rattle.straight_form.specs.Canonical.{item_names, module_text}
+use Rattle.straight_form.specs.Form.{IsStraightForm}
+use Rattle.straight_form.specs.Names.{is_plain_name}
+use Rattle.ir_parser.specs.Spelled.{Spells}
+use Rattle.ir_writer.specs.Modules.{item_names, module_text}
+use Rattle.ir_writer.specs.Ranges.{AreBytes, InRange}
 use Rattle.straight_plan.specs.declared.cut.Ask.{Ask}
 use Rattle.straight_plan.specs.declared.cut.Cut.{Cut}
 use Rattle.straight_plan.specs.Asked.{is_copied}
 use Rattle.straight_plan.specs.Left.{IsLeastPlan, IsPlan, IsPlanned, left_module}
 use Rattle.straight_reader.specs.Entered.{HasEntry}
-use Rattle.straight_writer.specs.Bytes.{AreBytes}
 use Rattle.straight_leave.specs.Entries.{IsNotNamed}
 use Rattle.straight_leave.specs.PlainNames.{HaveNoCopyNames, HaveNoReservedNames}
 use Rattle.straight_meaning.specs.declared.session.Session.{Session}
@@ -32,7 +33,7 @@ use Rattle.straight_meaning.specs.Lawful.{IsFor}
 use Rattle.occam_tool.specs.declared.job.Refusal.{Refusal}
 use Rattle.occam_tool.specs.declared.job.Report.{Report}
 use Rattle.occam_tool.specs.Entering.{IsKnownWord, AreWords}
-use Rattle.occam_tool.specs.Manifests.{IsWord, known_arg, IsSingle}
+use Rattle.occam_tool.specs.Manifests.{IsWord, known_arg}
 use Rattle.occam_tool.specs.Words.{command_of}
 use Rattle.occam_tool.specs.Lines.{answer_code}
 use Rattle.occam_tool.specs.Outcome.{Outputs, NamesModule, Reads, Winnows, RefusesManifest, RefusesModule, RefusesPlan, start_of, put_all}
@@ -45,7 +46,8 @@ use Rattle.occam_tool.specs.Keeping.{Keeps}
 use Rattle.occam_tool.proofs.TakenArguments.{takes_at}
 use Rattle.occam_tool.proofs.KnownArguments.{known_words}
 use Rattle.occam_tool.proofs.Roots.{root_function, root_copied, root_named}
-use Rattle.occam_tool.proofs.LeftNames.{left_bytes, no_copies, no_intrinsics, names_apart, function_names}
+use Rattle.occam_tool.proofs.LeftFormed.{few_plan}
+use Rattle.occam_tool.proofs.LeftNames.{left_bytes, no_copies, no_intrinsics, names_apart}
 
 -- the laws that the promise rests on
 pub record Laws : Type 0 where
@@ -59,8 +61,11 @@ pub record Laws : Type 0 where
   pub left_straight : (m : Module) (start : Ask) (plan : List Cut) → IsStraight m → HaveNoCopyNames m.items → IsPlan m.items start plan → IsNotNamed m.items start → length plan < 2 ^ 32
       → IsStraight (left_module m start plan)
   pub left_names : (m : Module) (start : Ask) (plan : List Cut) → HaveNoReservedNames m.items → HaveNoReservedNames (left_module m start plan).items
+  -- of straight modules
+  pub formed : (m : Module) → IsStraight m → HaveNoReservedNames m.items → Formed m
+  pub in_range : (m : Module) → IsStraight m → All (λ i. AreBytes (item_name i)) m.items → InRange m
   -- of the text that is written
-  pub spells : (m : Module) → IsStraight m → All (λ i. IsTrue (is_function_name (item_name i))) m.items → All (λ i. AreBytes (item_name i)) m.items → Spells (module_text m) m
+  pub spells : (m : Module) → Formed m → InRange m → Spells (module_text m) m
   pub one : (text : List ℕ) (m n : Module) → Spells text m → Spells text n → m ≡ n
   -- of runs
   pub agree : (m : Module) (entry : ℕ) (args : List Known) (start : Ask) (plan : List Cut) (s : Session) → IsFor m entry args start plan → Conforms entry args s → Agree m (left_module m start plan) start plan s
@@ -115,9 +120,6 @@ refused_code answer r e d = sym (ap answer_code e) ∙ d
 
 -- ---- what was written
 
-few_plan : (n : ℕ) → n ≤ 65536 → n < 2 ^ 32
-few_plan n h = omega (arith, h)
-
 takes_of : (laws : Laws) (files : FileMap) (manifest file entry : List ℕ) (args : List Known) (m : Module) (place : ℕ) → NamesModule files manifest file entry args → Reads files file entry args m place
     → IsFunctionFor args (slice_get m.items place)
 takes_of laws files manifest file entry args m place names reads =
@@ -150,7 +152,7 @@ left_spelled laws m place args plan plain h few =
     let start = start_of m place args in
     let left = left_module m start plan in
     let straight = left_is_straight laws m place args plan plain h few in
-    laws.spells left straight (function_names left straight (laws.left_names m start plan (no_intrinsics m.items plain))) (left_bytes m start plan plain h.planned)
+    laws.spells left (laws.formed left straight (laws.left_names m start plan (no_intrinsics m.items plain))) (laws.in_range left straight (left_bytes m start plan plain h.planned))
 
 keeps_of : (laws : Laws) (words : List (List ℕ)) (files : FileMap) (new : Option FileMap) (manifest outdir : List ℕ) (answer : Result Report Refusal) (outputs : Outputs)
     → Winnows files manifest outdir answer outputs → command_of words ≡ Some (manifest, outdir) → answer_code answer ≡ code.Done → new ≡ Some (put_all outputs files) → Keeps words files new

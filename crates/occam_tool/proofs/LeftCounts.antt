@@ -1,13 +1,10 @@
 -- What is left has the instructions and terminators of the residual bodies.
-use Rattle.std.proofs.Common.{rules, arith, ◌≡◌, ◌∙◌, ℕ, suc, ◌+◌, ◌<◌, ◌^◌, Bool, true, false, List, [], ◌∷◌, ◌++◌, All, length, map, slice_get, Option, Some, None, IsTrue, refl, sym, ap, subst}
-use Rattle.std.specs.Prelude.{IfSome, IsSome, sum_by, sum, flat_map, option_map}
-use Rattle.std.specs.List.{AllZip, AllByRecursion, cons_option, filter_map}
+use Rattle.std.proofs.Common.{arith, ◌≡◌, ◌∙◌, ℕ, suc, ◌+◌, List, [], ◌∷◌, length, slice_get, Option, Some, None, refl, sym, ap}
+use Rattle.std.specs.Prelude.{sum_by, option_map}
+use Rattle.std.specs.List.{AllByRecursion, cons_option, filter_map}
 use Rattle.std.proofs.lemmas.List.{length-map, append-nil}
 use Rattle.std.proofs.lemmas.List.Sums.{sum_by-cons}
 use Rattle.std.proofs.lemmas.List.Elements.{recursion_from_All}
-use Rattle.ir_types.specs.declared.scalar.Known.{Known}
-use Rattle.ir_types.specs.declared.scalar.Known.TheVariants.{Unknown, Num, Null}
-use Rattle.ir_syntax.specs.declared.item.Param.{Param}
 use Rattle.ir_syntax.specs.declared.item.Func.{Func}
 use Rattle.ir_syntax.specs.declared.item.Item.{Item}
 use Rattle.ir_syntax.specs.declared.item.Item.TheVariants as item
@@ -16,17 +13,14 @@ use Rattle.ir_syntax.specs.declared.constant.Operand.{Operand}
 use Rattle.ir_syntax.specs.declared.body.Inst.{Inst}
 use Rattle.ir_syntax.specs.declared.body.Body.{Body}
 use Rattle.ir_syntax.specs.Results.{count}
-use Rattle.ir_syntax.specs.Straight.{IsStraight, IsStraightItem, IsStraightFunc, word_param, straight_body}
-use Rattle.ir_syntax.specs.Suits.{is_number_of}
-use Rattle.interface.specs.Demands.{IsFunctionFor, IsKnownOf}
+use Rattle.ir_syntax.specs.Straight.{IsStraight, IsStraightFunc, straight_body}
+use Rattle.interface.specs.Demands.{IsFunctionFor}
 use Rattle.straight_form.specs.Counts.{item_count, body_count, instruction_count}
 use Rattle.straight_plan.specs.declared.cut.Ask.{Ask}
 use Rattle.straight_plan.specs.declared.cut.Cut.{Cut}
 use Rattle.straight_plan.specs.Asked.{insts_at, body_insts}
 use Rattle.straight_plan.specs.Residual.{residual}
-use Rattle.straight_plan.specs.Left.{IsPlan, asks_of, left_item, left_items, left_func, left_body, left_from, left_inst, left_module, size_of}
-use Rattle.straight_reader.specs.Entered.{HasEntry}
-use Rattle.occam_tool.specs.Entering.{IsKnownWord, AreWords}
+use Rattle.straight_plan.specs.Left.{IsPlan, asks_of, left_item, left_func, left_body, left_from, left_inst, left_module, size_of}
 use Rattle.occam_tool.proofs.TakenArguments.{func_at}
 
 cons_option_sum : (o : Option Item) (i : Item) (is : List Item) → o ≡ Some i → sum_by item_count (cons_option o is) ≡ item_count i + sum_by item_count is

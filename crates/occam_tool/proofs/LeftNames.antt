@@ -1,19 +1,18 @@
--- The names of what is left are bytes, and names of functions.
-use Rattle.std.proofs.Common.{◌≡◌, ◌∙◌, ◌≢◌, ◌⊎◌, inl, inr, ℕ, suc, ◌+◌, ◌%◌, ◌<◌, ◌≤◌, ◌^◌, Bool, true, false, not, ◌&&◌, ◌||◌, ◌==◌, nat_lt, nat_le, nat_eq, cond, List, [], ◌∷◌, ◌++◌, map, length, slice_get, get_or, if◌then◌else◌, Option, Some, None, IsTrue, All, refl, sym, ap, subst, arith}
-use Rattle.std.specs.List.{list_all, AllByRecursion, AllZip, starts_with, filter_map, cons_option, join_with_byte}
+-- The names of what is left are bytes, and none is that of an intrinsic.
+use Rattle.std.proofs.Common.{◌≡◌, ◌∙◌, ◌≢◌, ◌⊎◌, inl, inr, ℕ, suc, ◌+◌, ◌%◌, ◌<◌, ◌≤◌, ◌^◌, Bool, true, false, not, ◌&&◌, ◌||◌, ◌==◌, nat_le, nat_eq, cond, List, [], ◌∷◌, ◌++◌, length, slice_get, if◌then◌else◌, Option, Some, None, IsTrue, All, refl, sym, ap, subst, arith}
+use Rattle.std.specs.List.{list_all, AllByRecursion, AllZip, filter_map, cons_option}
 use Rattle.std.specs.Char.{is_ascii_digit, is_ascii_alphabetic}
 use Rattle.std.specs.Int.{is_in_range}
 use Rattle.std.specs.Fmt.{decimal}
 use Rattle.std.proofs.lemmas.Fmt.{decimal_by_steps}
-use Rattle.std.proofs.lemmas.Bool.{and_parts, and_from}
+use Rattle.std.proofs.lemmas.Bool.{and_parts}
 use Rattle.std.proofs.lemmas.Bool.Decides.{Decides-eqb, nat_tests}
 use Rattle.std.proofs.lemmas.List.Elements.{recursion_from_All, All-from_recursion}
 use Rattle.ir_types.specs.declared.scalar.Known.{Known}
 use Rattle.ir_types.specs.declared.scalar.Known.TheVariants.{Unknown, Num, Null}
 use Rattle.ir_lexer.specs.Signs.{begins_word, begins_name, is_name_byte}
-use Rattle.straight_form.specs.Names.{is_name, is_unquoted, is_plain_name, is_reserved, is_function_name}
-use Rattle.std.proofs.lemmas.Option.{slice_get-get_or}
-use Rattle.std.specs.Prelude.{IfSome, codes}
+use Rattle.straight_form.specs.Names.{is_unquoted, is_plain_name, is_reserved}
+use Rattle.std.specs.Prelude.{codes}
 use Rattle.ir_types.specs.declared.scalar.Scalar.{Scalar}
 use Rattle.ir_types.specs.declared.scalar.Scalar.TheVariants.{I1, I8, I16, I32, I64, Ptr}
 use Rattle.ir_syntax.specs.declared.item.Param.{Param}
@@ -21,15 +20,13 @@ use Rattle.ir_syntax.specs.declared.item.Item.{Item}
 use Rattle.ir_syntax.specs.declared.item.Item.TheVariants as item
 use Rattle.ir_syntax.specs.declared.item.Module.{Module}
 use Rattle.ir_syntax.specs.FormedBody.{item_name}
-use Rattle.ir_syntax.specs.FormedItem.{IsName}
 use Rattle.ir_syntax.specs.Suits.{is_number_of}
-use Rattle.ir_syntax.specs.Straight.{IsStraight, IsStraightItem}
 use Rattle.interface.specs.Demands.{IsFunctionFor, IsKnownOf}
 use Rattle.interface.specs.Names.{item_text, items_text, copy_name, are_unknown}
 use Rattle.straight_plan.specs.declared.cut.Ask.{Ask}
 use Rattle.straight_plan.specs.declared.cut.Cut.{Cut}
 use Rattle.straight_plan.specs.Left.{IsPlan, asks_of, is_entry, left_name, left_item, left_items, left_module}
-use Rattle.straight_writer.specs.Bytes.{AreBytes}
+use Rattle.ir_writer.specs.Ranges.{AreBytes}
 use Rattle.straight_leave.specs.PlainNames.{begins_as_copy, HaveNoCopyNames, HaveNoReservedNames}
 use Rattle.straight_meaning.specs.Lawful.{first_byte}
 
@@ -247,32 +244,3 @@ no_intrinsics items h = all_of (λ name. is_reserved name ≡ false) plain_free 
 
 pub names_apart : (items : List Item) → All (λ i. IsTrue (is_plain_name (item_name i))) items → All (λ i. first_byte (item_name i) ≢ Some 40) items
 names_apart items h = all_of (λ name. first_byte name ≢ Some 40) plain_first items h
-
--- ---- names of functions
-
-none_zero : (bs : List ℕ) → AllByRecursion (λ byte. byte ≢ 0) bs → list_all (λ byte. not (byte == 0)) bs ≡ true
-none_zero [] h = refl
-none_zero (b ∷ bs) h = and_from (not (b == 0)) (list_all (λ byte. not (byte == 0)) bs) (by (b == 0) refl) (none_zero bs h.1)
-  where
-    by : (t : Bool) → (b == 0) ≡ t → not t ≡ true
-    by true e = absurd (h.0 ((Decides-eqb b 0).0 e))
-    by false e = refl
-
-function_name : (name : List ℕ) → IsName name → is_reserved name ≡ false → IsTrue (is_function_name name)
-function_name name h free =
-    let some : nat_lt 0 (length name) ≡ true = grind (arith, nat_tests, h.not_empty) in
-    let short : nat_le (length name) 4096 ≡ true = grind (arith, nat_tests, h.short) in
-    and_from (is_name name) (not (is_reserved name))
-    (and_from (nat_lt 0 (length name) && nat_le (length name) 4096) (list_all (λ byte. not (byte == 0)) name) (and_from (nat_lt 0 (length name)) (nat_le (length name) 4096) some short)
-    (none_zero name (recursion_from_All (λ byte. byte ≢ 0) name h.no_zero)))
-    (ap not free)
-
-item_named : (items : List Item) (k : ℕ) (i : Item) → IsStraightItem items k i → IsName (item_name i)
-item_named items k (item.Var v) h = absurd h
-item_named items k (item.Func f) h = h.has_name
-
-pub function_names : (m : Module) → IsStraight m → HaveNoReservedNames m.items → All (λ i. IsTrue (is_function_name (item_name i))) m.items
-function_names m straight free = λ k d within.
-    let there = slice_get-get_or m.items k d within in
-    let one = subst (λ o. IfSome o (IsStraightItem m.items k)) there (straight.each k) in
-    function_name (item_name (get_or m.items k d)) (item_named m.items k (get_or m.items k d) one) (free k d within)

@@ -8,6 +8,7 @@ pub mod WholeFiles
 pub mod KnownArguments
 pub mod TakenArguments
 pub mod LeftCounts
+pub mod LeftFormed
 pub mod LeftNames
 pub mod Roots
 pub mod KeptPrograms

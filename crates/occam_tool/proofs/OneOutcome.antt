@@ -1,5 +1,5 @@
 -- The outcome of the words is one.
-use Rattle.std.proofs.Common.{◌≡◌, ◌∙◌, ℕ, true, List, [], ◌∷◌, length, map, Option, Some, None, Result, Ok, Err, sym, ap, subst}
+use Rattle.std.proofs.Common.{◌≡◌, ◌∙◌, ℕ, List, [], ◌∷◌, length, map, Option, Some, None, Result, Ok, Err, sym, ap, subst}
 use Rattle.ir_types.specs.declared.scalar.Known.{Known}
 use Rattle.manifest.specs.declared.fault.Manifest.{Manifest}
 use Rattle.manifest.specs.Manifest.{HasManifest}
@@ -9,7 +9,7 @@ use Rattle.ir_syntax.specs.declared.item.Item.{Item}
 use Rattle.ir_syntax.specs.declared.item.Module.{Module}
 use Rattle.straight_form.specs.Form.{IsStraightForm}
 use Rattle.name_table.specs.Places.{place_among}
-use Rattle.straight_form.specs.Canonical.{item_names, module_text}
+use Rattle.ir_writer.specs.Modules.{item_names, module_text}
 use Rattle.straight_plan.specs.declared.cut.Ask.{Ask}
 use Rattle.straight_plan.specs.declared.cut.Cut.{Cut}
 use Rattle.straight_plan.specs.Left.{AreTooMany, IsTooMuch, IsPlanned, IsLeastPlan, left_module}

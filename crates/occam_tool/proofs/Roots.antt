@@ -1,5 +1,5 @@
 -- What is asked for from outside is a function of the module, and is copied only where that may be.
-use Rattle.std.proofs.Common.{◌≡◌, ◌∙◌, ℕ, Bool, true, false, List, [], ◌∷◌, map, slice_get, Option, Some, None, refl, sym, ap, subst, if◌then◌else◌}
+use Rattle.std.proofs.Common.{◌≡◌, ◌∙◌, ℕ, Bool, true, false, List, [], ◌∷◌, slice_get, Option, Some, None, refl, sym, if◌then◌else◌}
 use Rattle.std.specs.List.{AllZip}
 use Rattle.ir_types.specs.declared.scalar.Known.{Known}
 use Rattle.ir_syntax.specs.declared.item.Param.{Param}

@@ -3,10 +3,10 @@
 use Rattle.std.specs.Prelude.{◌≡◌, ℕ, ◌≤◌, ◌/◌, ◌⊎◌, List, Option, Some, IsSome}
 use Rattle.std.specs.FinMap as map
 use Rattle.ir_types.specs.declared.scalar.Known.{Known}
-use Rattle.occam_base.specs.Files.{FileMap, file_of}
+use Rattle.occam_base.specs.Files.{FileMap}
 use Rattle.ir_syntax.specs.declared.item.Module.{Module}
 use Rattle.ir_syntax.specs.Straight.{IsStraight}
-use Rattle.straight_form.specs.Form.{Spells}
+use Rattle.ir_parser.specs.Spelled.{Spells}
 use Rattle.straight_plan.specs.declared.cut.Cut.{Cut}
 use Rattle.straight_plan.specs.Left.{IsPlanned, left_module}
 use Rattle.straight_meaning.specs.declared.session.Session.{Session}

@@ -1,6 +1,7 @@
 pub mod Keeping
 pub mod Lines
 pub mod Manifests
+pub mod Names
 pub mod Outcome
 pub mod Printing
 pub mod Program

@@ -9,7 +9,7 @@ use Rattle.ir_syntax.specs.declared.item.Module.{Module}
 use Rattle.name_table.specs.Places.{place_among}
 use Rattle.straight_form.specs.Form.{IsStraightForm}
 use Rattle.straight_form.specs.Counts.{instruction_count}
-use Rattle.straight_form.specs.Canonical.{item_names, module_text}
+use Rattle.ir_writer.specs.Modules.{item_names, module_text}
 use Rattle.straight_plan.specs.declared.cut.Ask.{Ask}
 use Rattle.straight_plan.specs.declared.cut.Cut.{Cut}
 use Rattle.straight_plan.specs.Asked.{root}

@@ -10,7 +10,7 @@ use Rattle.fixed_point.specs.declared.fault.FixFault.{FixFault}
 use Rattle.fixed_point.specs.declared.fault.FixFault.TheVariants as fix
 use Rattle.ir_types.specs.declared.scalar.Known.{Known}
 use Rattle.straight_form.specs.Form.{IsStraightForm}
-use Rattle.straight_form.specs.Canonical.{item_names, module_text}
+use Rattle.ir_writer.specs.Modules.{item_names, module_text}
 use Rattle.name_table.specs.Places.{place_among}
 use Rattle.straight_plan.specs.declared.cut.Ask.{Ask}
 use Rattle.straight_plan.specs.declared.cut.Cut.{Cut}
@@ -18,7 +18,7 @@ use Rattle.straight_plan.specs.Left.{AreTooMany, IsTooMuch, IsPlanned, left_modu
 use Rattle.occam_tool.specs.declared.job.Refusal.{Refusal}
 use Rattle.occam_tool.specs.declared.plan.Plan.{Plan}
 use Rattle.occam_tool.specs.declared.left.Left.{Left}
-use Rattle.occam_tool.specs.Outcome.{NamesModule, RefusesManifest, RefusesModule, RefusesPlan, Reads, start_of, is_free, report_of, output_name}
+use Rattle.occam_tool.specs.Outcome.{NamesModule, RefusesManifest, RefusesModule, start_of, is_free, report_of, output_name}
 
 -- what a reading step found of the manifest
 abbrev pub PlanGives : Option FileMap → List ℕ → Result Plan Refusal → Type 0

@@ -6,9 +6,11 @@ ghost use Rattle.straight_plan.specs.Asked.{program_items};
 ghost use Rattle.straight_plan.specs.Left.{IsPlan, size_of};
 ghost use Rattle.ir_syntax.specs.Straight.{IsStraight};
 ghost use Rattle.straight_form.specs.Counts.{instruction_count};
+ghost use Rattle.straight_leave.specs.Entries.{IsNotNamed};
 ghost use Rattle.occam_tool.specs.Steps.{ModuleGives, ReadsAlone, IsWrittenLeft, LeavesAt, LeftGives, code_of, CanStop};
 ghost use Rattle.straight_reader.specs.Entered.{HasEntry};
 ghost use Rattle.occam_tool.specs.Entering.{AreWords};
+ghost use Rattle.occam_tool.specs.Names.{HavePlainNames};
 
 use crate::counting::count_instructions;
 use crate::entering::place_of_entry;
@@ -20,10 +22,11 @@ use crate::{Refusal, Report};
 use fixed_point::FixFault;
 use ir_syntax::{Module, Program};
 use ir_types::{Bytes, Known, OutOfMemory};
+use ir_writer::{straight_modules_are_written, write_module};
 use occam_base::{Code, Shelf};
 use std::alloc::Global;
 use straight_fold::{least_plan_is_a_plan, plan, root_of};
-use straight_leave::{clones, originals};
+use straight_leave::{clones, originals, what_is_left_is_straight};
 use straight_plan::{Ask, Cut};
 use straight_reader::the_form_is_straight;
 
@@ -44,6 +47,7 @@ pub fn read_module<S: Shelf>(alloc: Global, shelf: &mut S, plan: &Plan) -> Resul
     ensures alone { ReadsAlone (code_of result) (S.files shelf.old) (S.files shelf.new) (S.read_faults shelf.old) (S.read_faults shelf.new) (S.put_faults shelf.old) (S.put_faults shelf.new) }
     ensures straight { IfOk result IsStraight }
     ensures entered { IfOk result (λ m. HasEntry m plan.now.entry (length plan.now.args)) }
+    ensures plain { IfOk result (λ m. HavePlainNames m.items) }
     ensures bounded { IfOk result (λ m. instruction_count m ≤ 16777216) }
 {
     the_form_is_straight();
@@ -71,6 +75,7 @@ pub fn read_module<S: Shelf>(alloc: Global, shelf: &mut S, plan: &Plan) -> Resul
 pub fn leave(alloc: Global, module: Module, entry: &[u8], args: &[Known]) -> Result<Left, FixFault>
     requires straight { IsStraight «module» }
     requires entered { HasEntry «module» entry.now (length args.now) }
+    requires plain { HavePlainNames «module».items }
     requires words { AreWords args.now }
     requires bounded { instruction_count «module» ≤ 16777216 }
     ensures { LeftGives «module» entry.now args.now result }
@@ -93,6 +98,7 @@ fn leave_program(
     before: u64,
 ) -> Result<Left, FixFault>
     requires entry { IsFunctionFor args.now (slice_get (program_items program.now) place) }
+    requires plain { HavePlainNames (program_items program.now) }
     requires counted { (m : ModuleValue) → program.now ≡ m ∷ [] → before ≡ instruction_count m }
     ensures { (m : ModuleValue) → program.now ≡ m ∷ [] → LeavesAt m place args.now result }
 {
@@ -121,13 +127,18 @@ fn written(
     before: u64,
 ) -> Result<Left, OutOfMemory>
     requires straight { IsStraight «module».now }
+    requires plain { HavePlainNames «module».now.items }
+    requires not_named { IsNotNamed «module».now.items start.now }
     requires plan { IsPlan «module».now.items start.now cuts.now }
+    requires few { length cuts.now ≤ 65536 }
     requires short { sum_by (size_of «module».now.items) cuts.now ≤ 8388608 }
     requires before { before ≡ instruction_count «module».now }
     ensures { IfOk result (λ left. IsWrittenLeft «module».now start.now cuts.now left) }
 {
+    what_is_left_is_straight();
+    straight_modules_are_written();
     let left = straight_leave::leave(alloc, module, start, cuts)?;
-    let text = straight_writer::write(alloc, &left)?;
+    let text = write_module(alloc, &left)?;
     let report = Report {
         modules: 1,
         originals: originals(start, cuts) as u64,

@@ -12,7 +12,9 @@ use crate::telling::{refuse, report_done};
 use crate::winnowing::winnow;
 use crate::words::{Command, command_of};
 use crate::{Detail, Job, Refusal};
+use ir_parser::a_text_spells_one_module;
 use ir_types::{Bytes, OutOfMemory};
+use ir_writer::{straight_modules_are_written, what_is_written_is_read_again};
 use occam_base::{Code, Gate, Shelf, Sink, Source};
 use std::alloc::Global;
 use std::thread::Threads;
@@ -20,7 +22,6 @@ use straight_fold::least_plan_is_a_plan;
 use straight_leave::what_is_left_is_straight;
 use straight_meaning::{meaning_is_kept, run_goes_on};
 use straight_reader::the_form_is_straight;
-use straight_writer::{spelling_is_one, what_is_written_spells_the_module};
 
 /// Does what the words of the command line ask for, and prints one line to the sink.
 ///
@@ -66,8 +67,9 @@ pub fn tool<R: Threads + Sync, S: Shelf, I: Source, O: Sink, G: Gate>(
     the_form_is_straight();
     least_plan_is_a_plan();
     what_is_left_is_straight();
-    what_is_written_spells_the_module();
-    spelling_is_one();
+    straight_modules_are_written();
+    what_is_written_is_read_again();
+    a_text_spells_one_module();
     meaning_is_kept();
     run_goes_on();
     match command_of(words) {

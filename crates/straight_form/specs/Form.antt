@@ -1,43 +1,13 @@
--- Which module a text spells, and which text is of the form.
-use Rattle.std.specs.Prelude.{◌≡◌, ℕ, ◌≤◌, Bool, true, false, ◌&&◌, ◌==◌, not, is_none, bytes_eq, IsTrue, List, [], ◌∷◌, length, map, Option, Some, None, option_map}
+-- Which text is of the form, and which module it spells.
+use Rattle.std.specs.Prelude.{◌≡◌, ℕ, ◌≤◌, Bool, true, false, ◌&&◌, ◌==◌, not, is_none, bytes_eq, IsTrue, List, [], ◌∷◌, length, Option, Some, None}
 use Rattle.std.specs.List.{list_all, list_any}
-use Rattle.ir_lexer.specs.Texts as texts
 use Rattle.ir_syntax.specs.declared.item.Module.{Module}
-use Rattle.straight_form.specs.declared.surface.Value.{Value}
-use Rattle.straight_form.specs.declared.surface.Value.TheVariants.{Number, Local}
 use Rattle.straight_form.specs.declared.surface.Line.{Line}
 use Rattle.straight_form.specs.declared.surface.Line.TheVariants.{Add, Call}
 use Rattle.straight_form.specs.declared.surface.Entity.{Entity}
 use Rattle.straight_form.specs.Names.{is_plain_name}
 use Rattle.straight_form.specs.Spelled.{IsTextOf}
 use Rattle.straight_form.specs.Resolved.{module_of}
-
--- ---- which module a text spells: names may stand in quotes
-
-abbrev pub unquoted_value : Value → Value
-unquoted_value (Number digits) = Number digits
-unquoted_value (Local name) = Local (texts.name_of name)
-
-abbrev pub unquoted_line : Line → Line
-unquoted_line (Add name a b) = Add (texts.name_of name) (unquoted_value a) (unquoted_value b)
-unquoted_line (Call name callee args) = Call (texts.name_of name) (texts.name_of callee) (map unquoted_value args)
-
--- the definition with each name as its bytes, without quotes and escapes
-abbrev pub unquoted : Entity → Entity
-unquoted e = record {
-  internal = e.internal;
-  name = texts.name_of e.name;
-  params = map texts.name_of e.params;
-  label = option_map texts.name_of e.label;
-  lines = map unquoted_line e.lines;
-  result = unquoted_value e.result;
-}
-
--- The text spells the module: it is the text of definitions that resolve to it.
-pub record Spells (text : List ℕ) (m : Module) : Type 0 where
-  pub entities : List Entity
-  pub spelled : IsTextOf text entities
-  pub resolved : module_of (map unquoted entities) ≡ Some m
 
 -- ---- the form: names without quotes, no labels, and calls of later functions
 

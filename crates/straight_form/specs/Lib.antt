@@ -1,4 +1,3 @@
-pub mod Canonical
 pub mod Counts
 pub mod Form
 pub mod Names

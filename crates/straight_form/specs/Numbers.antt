@@ -1,6 +1,5 @@
--- Integers of 32 bits, as they are written and read.
+-- Integers of 32 bits, as they are read.
 use Rattle.std.specs.Prelude.{ℕ, ◌+◌, ◌-◌, ◌*◌, ◌%◌, ◌^◌, nat_lt, nat_le, nat_eq, List, [], ◌∷◌, fold, Option, Some, None, if◌then◌else◌}
-use Rattle.std.specs.Fmt.{decimal}
 
 -- the number that decimal digits stand for
 abbrev pub number_of_digits : List ℕ → ℕ
@@ -12,7 +11,3 @@ integer_of [] = None
 integer_of (first ∷ rest) =
     if nat_eq first 45 then (if nat_le (number_of_digits rest) (2 ^ 31) then Some ((2 ^ 32 - number_of_digits rest) % 2 ^ 32) else None)
     else (if nat_lt (number_of_digits (first ∷ rest)) (2 ^ 32) then Some (number_of_digits (first ∷ rest)) else None)
-
--- a number below 2^32 as a signed decimal
-abbrev pub signed_decimal : ℕ → List ℕ
-signed_decimal n = if nat_lt n (2 ^ 31) then decimal n else 45 ∷ decimal (2 ^ 32 - n)

@@ -1,5 +1,5 @@
-//! Modules of straight-line functions over i32, whose blocks add and call: what their text is, which module a text
-//! spells, which texts are of the form, and the canonical text of a module.
+//! Modules of straight-line functions over i32, whose blocks add and call: which texts are of the form, and which
+//! module such a text spells.
 #![tactic(auto)]
 
 mod lexeme;

@@ -1,0 +1,63 @@
+//! Reads the texts of modules from a file, each behind a line `; ----`, writes each again and prints it, so that tables
+//! of modules can be tried: `module_rows FILE` prints for each what is written, or why the text spells no module.
+#![tactic(auto)]
+
+mod rows;
+
+use crate::rows::{Row, row_of};
+use std::process::ExitCode;
+use std::rt::{Env, Files};
+use std::{env, fs, io};
+
+/// What stands between two texts.
+const BETWEEN: &str = "; ----\n";
+
+fn main(rt: HostRuntime) -> ExitCode {
+    match run(&rt) {
+        Ok(status) => ExitCode::from(status),
+        Err(_) => ExitCode::FAILURE,
+    }
+}
+
+// What is returned is the exit status.
+fn run<R: Env + Files + Print + AllocGlobal>(rt: &R) -> io::Result<u8> {
+    let words = words_of(rt)?;
+    let name = match words.as_slice() {
+        [name] => name.as_str(),
+        _ => {
+            println!(rt; "refused usage")?;
+            return Ok(2);
+        }
+    };
+    let text = fs::read_to_string(rt, name)?;
+    for piece in text.split(BETWEEN) {
+        print!(rt; "{BETWEEN}")?;
+        print_row(rt, piece)?;
+    }
+    Ok(0)
+}
+
+// What is said of one text.
+fn print_row<R: Print + AllocGlobal>(rt: &R, text: &str) -> io::Result<()> {
+    match row_of(rt.alloc(), text.as_bytes()) {
+        Row::Written(bytes) => match str::from_utf8(bytes.as_slice()) {
+            Ok(written) => print!(rt; "{written}"),
+            Err(_) => println!(rt; "written, and no text"),
+        },
+        Row::Changed => println!(rt; "changed"),
+        Row::BadByte { at } => println!(rt; "refused bad-byte {at}"),
+        Row::NotInSubset { entity } => println!(rt; "refused not-in-subset {entity}"),
+        Row::OutOfMemory => println!(rt; "refused memory"),
+    }
+}
+
+// The words after the program's name.
+fn words_of<R: Env + AllocGlobal>(rt: &R) -> io::Result<Vec<String>> {
+    let mut words = Vec::new(rt.alloc());
+    for (place, word) in env::args(rt)?.enumerate() {
+        if place > 0 {
+            words.push(word)?;
+        }
+    }
+    Ok(words)
+}

@@ -1,8 +1,0 @@
-pub mod Digits
-pub mod Quoted
-pub mod Plans
-pub mod Planned
-pub mod Parts
-pub mod Resolves
-pub mod Readable
-pub mod OneSpelling

@@ -1,8 +1,0 @@
--- the text so far, and then that of the items that are left, is the text of all
-use Rattle.std.proofs.Common.{◌≡◌, ◌++◌, map, flat_map, drop}
-use Rattle.ir_syntax.specs.FormedBody.{item_name}
-use Rattle.straight_form.specs.Canonical.{item_text}
-use Rattle.straight_writer.proofs.items.write_items.Given as goal
-
-abbrev pub invariant-loop-item : goal.invariant-loop-item
-invariant-loop-item l = l.out ++ flat_map (item_text (map item_name l.items)) (drop l.item-index l.items) ≡ l.initial.out ++ flat_map (item_text (map item_name l.items)) l.items

@@ -1,7 +1,0 @@
--- the text so far, and then that of the bytes that are left, is the text of all
-use Rattle.std.proofs.Common.{◌≡◌, ◌++◌, flat_map, drop}
-use Rattle.straight_form.specs.Canonical.{escaped}
-use Rattle.straight_writer.proofs.names.write_all_escaped.Given as goal
-
-abbrev pub invariant-loop-byte : goal.invariant-loop-byte
-invariant-loop-byte l = l.out ++ flat_map escaped (drop l.byte-index l.name) ≡ l.initial.out ++ flat_map escaped l.name
