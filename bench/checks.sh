@@ -4,20 +4,8 @@
 # blocks to a join; one block of additions; and one switch with all its edges to one block. The greatest sizes are near
 # the most blocks that a body may have, 65,535.
 set -eu
-top=$(cd "$(dirname "$0")/.." && pwd)
-program="$top/crates/checks_bench/out/checks_bench"
-if [ ! -x "$program" ] || [ -n "$(find "$top/crates" -name '*.rt' -newer "$program" -print -quit)" ]; then
-  log=$(mktemp)
-  rm -f "$program"
-  # `rt run` proves and builds what is needed, and then runs the program, which refuses no words with status 2.
-  (cd "$top/crates/checks_bench" && rt run) >"$log" 2>&1 || true
-  if [ ! -x "$program" ]; then
-    cat "$log" >&2
-    rm -f "$log"
-    exit 1
-  fi
-  rm -f "$log"
-fi
+. "$(dirname "$0")/build.sh"
+build checks_bench
 work=$(mktemp -d)
 trap 'rm -rf "$work"' EXIT
 

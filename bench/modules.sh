@@ -4,20 +4,8 @@
 # takes the file. Shapes: many symbols, lines of metadata, one long c"..", one long array of bytes, a chain of named
 # types, and bodies of every kind of instruction. The sizes are 1, 4 and near 16 MiB.
 set -eu
-top=$(cd "$(dirname "$0")/.." && pwd)
-program="$top/crates/modules_bench/out/modules_bench"
-if [ ! -x "$program" ] || [ -n "$(find "$top/crates" -name '*.rt' -newer "$program" -print -quit)" ]; then
-  log=$(mktemp)
-  rm -f "$program"
-  # `rt run` proves and builds what is needed, and then runs the program on its sample.
-  (cd "$top/crates/modules_bench" && rt run) >"$log" 2>&1 || true
-  if [ ! -x "$program" ]; then
-    cat "$log" >&2
-    rm -f "$log"
-    exit 1
-  fi
-  rm -f "$log"
-fi
+. "$(dirname "$0")/build.sh"
+build modules_bench
 work=$(mktemp -d)
 trap 'rm -rf "$work"' EXIT
 

@@ -1,0 +1,9 @@
+pub mod Escapes
+pub mod Texts
+pub mod Kept
+pub mod TypeRanges
+pub mod ConstantRanges
+pub mod LineRanges
+pub mod BodyRanges
+pub mod ItemRanges
+pub mod Whole

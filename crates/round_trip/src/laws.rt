@@ -1,0 +1,24 @@
+//! Laws of texts that are read. Each is the contract of a function that does nothing.
+ghost use Rattle.std.specs.Prelude.{List, ℕ};
+ghost use Rattle.ir_syntax.specs.declared.item.Module.{Module};
+ghost use Rattle.ir_parser.specs.Spelled.{Spells};
+ghost use Rattle.ir_writer.specs.Modules.{module_text};
+ghost use Rattle.ir_writer.specs.Ranges.{AreBytes, InRange};
+
+use ir_parser::what_is_spelled_is_formed;
+use ir_writer::what_is_written_is_read_again;
+
+/// A module that a text of bytes spells has the numbers of the machine: bytes below 256, counts below 2^64 and offsets of
+/// 64 bits.
+pub fn what_is_spelled_is_in_range()
+    ensures { (text : List ℕ) (m : Module) → AreBytes text → Spells text m → InRange m }
+{}
+
+/// The canonical text of a module that a text of bytes spells is read as that module again.
+pub fn what_was_read_is_read_again()
+    ensures { (text : List ℕ) (m : Module) → AreBytes text → Spells text m → Spells (module_text m) m }
+{
+    what_is_spelled_is_formed();
+    what_is_spelled_is_in_range();
+    what_is_written_is_read_again();
+}
