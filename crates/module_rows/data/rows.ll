@@ -4214,3 +4214,20 @@ attributes #0 = { noinline nounwind "frame-pointer"="all" }
 attributes #1 = { "frame-pointer"="all" }
 !llvm.module.flags = !{!0}
 !0 = !{i32 1, !"wchar_size", i32 4}
+; ----
+!0 = !1
+!2 = distinct !3
+!4 = distinct !{!2}
+; ----
+define i32 @f(i32 %x) {
+  switch i32 %x, label %d [ i32 1, label %a i32 -1, label %d ]
+a:
+  ret i32 1
+d:
+  ret i32 2
+}
+; ----
+define i32 @f(i32 %x) {
+  %c = freeze i32 %x
+  ret i32 0
+}
