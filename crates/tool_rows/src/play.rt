@@ -53,13 +53,15 @@ pub fn print_case<R: Print + AllocGlobal + Threads + Sync>(
 
 fn print_file<R: Print + AllocGlobal>(rt: &R, file: &(Bytes, Bytes)) -> anyhow::Result<()> {
     let name = str::from_utf8(file.0.as_slice()).unwrap_or("no text");
-    let length = file.1.len();
-    if length > SHOWN {
-        println!(rt; "file {name}: {length} bytes")?;
+    if file.1.len() > SHOWN {
+        println!(rt; "file {name}: more than {SHOWN} bytes")?;
         return Ok(());
     }
     println!(rt; "file {name}")?;
-    print!(rt; "{}", str::from_utf8(file.1.as_slice()).unwrap_or("no text\n"))?;
+    print!(rt;
+        "{}",
+        str::from_utf8(file.1.as_slice()).unwrap_or("no text\n")
+    )?;
     Ok(())
 }
 
