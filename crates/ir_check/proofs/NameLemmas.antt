@@ -12,7 +12,8 @@ use Rattle.ir_syntax.specs.declared.constant.Const.TheVariants.{outs-Int, outs-N
 use Rattle.ir_syntax.specs.declared.item.Item.{Item}
 use Rattle.ir_syntax.specs.FormedBody.{is_intrinsic_item}
 use Rattle.ir_check.proofs.Loops.{All-first, All-second}
-use Rattle.ir_syntax.specs.Typed.{names, names_step, NamesNoIntrinsic}
+use Rattle.ir_syntax.specs.Named.{names, names_step}
+use Rattle.ir_syntax.specs.Typed.{NamesNoIntrinsic}
 
 -- the items that a constant names, by its layer
 names_out : (constant : Const) (x : Const-F Const) → out-Const constant ≡ x → names constant ≡ names_step (map-Const Const (List ℕ) names x)

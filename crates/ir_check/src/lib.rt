@@ -61,5 +61,3 @@ pub fn check_types(alloc: Global, m: &Module) -> Result<(), TypeFault>
     }
 }
 
-#[cfg(test)]
-mod tests;

@@ -1,3 +1,4 @@
+pub mod NameLemmas
 pub mod ResultLemmas
 pub mod SuitLemmas
 pub mod WorkedItems

@@ -4,9 +4,7 @@ use Rattle.ir_types.specs.declared.scalar.Scalar.{Scalar}
 use Rattle.ir_syntax.specs.declared.constant.Operand.{Operand}
 use Rattle.ir_syntax.specs.declared.constant.Operand.TheVariants as operand
 use Rattle.ir_syntax.specs.declared.body.Inst.{Inst}
-use Rattle.ir_syntax.specs.declared.body.Inst.TheVariants.{Bin, Icmp, Select, Cast, Alloca, Load, Store, Gep, Call}
 use Rattle.ir_syntax.specs.declared.body.Term.{Term}
-use Rattle.ir_syntax.specs.declared.body.Term.TheVariants.{RetVoid, Ret, Br, CondBr, Switch, Unreachable}
 use Rattle.ir_syntax.specs.declared.body.Phi.{Phi}
 use Rattle.ir_syntax.specs.declared.body.Block.{Block}
 use Rattle.ir_syntax.specs.declared.body.Body.{Body}
@@ -15,6 +13,7 @@ use Rattle.ir_syntax.specs.declared.item.Item.TheVariants as item
 use Rattle.ir_syntax.specs.declared.item.Module.{Module}
 use Rattle.ir_syntax.specs.Edges.{Leads}
 use Rattle.ir_syntax.specs.Results.{result_type, block_results}
+pub use Rattle.ir_syntax.specs.Operands.{operands, term_operands}
 
 -- ---- what is defined where
 
@@ -38,27 +37,6 @@ abbrev pub operand_uses : ℕ → ℕ → Operand → List Use
 operand_uses place until (operand.Param k) = []
 operand_uses place until (operand.Reg k) = record { register = k; place = place; until = until } ∷ []
 operand_uses place until (operand.Const constant) = []
-
--- the operands of an instruction
-abbrev pub operands : Inst → List Operand
-operands (Bin op flags ty a b) = a ∷ b ∷ []
-operands (Icmp pred ty a b) = a ∷ b ∷ []
-operands (Select ty cond a b) = cond ∷ a ∷ b ∷ []
-operands (Cast op nneg from to a) = a ∷ []
-operands (Alloca ty count align) = []
-operands (Load ty at align) = at ∷ []
-operands (Store ty value at align) = value ∷ at ∷ []
-operands (Gep inbounds ty base indices) = base ∷ map (λ index. index.1) indices
-operands (Call fn_ty ret_ext callee args) = callee ∷ map (λ arg. arg.value) args
-
--- and of a terminator
-abbrev pub term_operands : Term → List Operand
-term_operands RetVoid = []
-term_operands (Ret ty value) = value ∷ []
-term_operands (Br to) = []
-term_operands (CondBr cond one other) = cond ∷ []
-term_operands (Switch ty value default cases) = value ∷ []
-term_operands Unreachable = []
 
 -- An operand of a phi is used at the end of the block that its edge comes from.
 abbrev pub phi_uses : List Block → Phi → List Use

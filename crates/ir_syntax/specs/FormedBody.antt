@@ -23,8 +23,10 @@ use Rattle.ir_syntax.specs.declared.body.Block.{Block}
 use Rattle.ir_syntax.specs.declared.body.Body.{Body}
 use Rattle.ir_syntax.specs.declared.item.Item.{Item}
 use Rattle.ir_syntax.specs.declared.item.Item.TheVariants as item
-use Rattle.ir_syntax.specs.Suits.{IsType, is_number_of, Suits}
+use Rattle.ir_types.specs.Scalars.{is_number_of}
+use Rattle.ir_syntax.specs.Suits.{IsType, Suits}
 use Rattle.ir_syntax.specs.Results.{results, count}
+pub use Rattle.ir_syntax.specs.Intrinsics.{is_intrinsic}
 
 -- What a body may name: the items of its module, and so many parameters, results and blocks.
 pub record Places : Type 0 where
@@ -74,10 +76,6 @@ pub record AllowsFlags (op : BinOp) (flags : Flags) : Type 0 where
   pub disjoint : IsTrue flags.disjoint → IsTrue (may_be_disjoint op)
 
 -- ---- calls
-
--- the intrinsics: they copy and fill memory
-abbrev pub is_intrinsic : List ℕ → Bool
-is_intrinsic name = bytes_eq name (codes "llvm.memcpy.p0.p0.i64") || bytes_eq name (codes "llvm.memmove.p0.p0.i64") || bytes_eq name (codes "llvm.memset.p0.i64")
 
 abbrev pub item_name : Item → List ℕ
 item_name (item.Var var) = var.name

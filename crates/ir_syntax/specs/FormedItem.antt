@@ -7,13 +7,9 @@ use Rattle.ir_syntax.specs.declared.item.Func.{Func}
 use Rattle.ir_syntax.specs.declared.item.Item.{Item}
 use Rattle.ir_syntax.specs.declared.item.Item.TheVariants as item
 use Rattle.ir_syntax.specs.Suits.{IsType, Suits}
-use Rattle.ir_syntax.specs.FormedBody.{IsAlign, is_intrinsic, FormedBody}
-
--- A name has 1 to 4,096 bytes, none of them zero.
-pub record IsName (name : List ℕ) : Type 0 where
-  pub not_empty : 0 < length name
-  pub short : length name ≤ 4096
-  pub no_zero : All (λ byte. byte ≢ 0) name
+use Rattle.ir_syntax.specs.FormedBody.{IsAlign, FormedBody}
+use Rattle.ir_syntax.specs.Intrinsics.{is_intrinsic}
+pub use Rattle.ir_types.specs.Names.{IsName}
 
 -- The name begins with `llvm.`.
 abbrev pub is_reserved : List ℕ → Bool

@@ -20,7 +20,7 @@ use Rattle.ir_syntax.specs.declared.item.Item.{Item}
 use Rattle.ir_syntax.specs.declared.item.Item.TheVariants as item
 use Rattle.ir_syntax.specs.declared.item.Linkage.TheVariants.{Private}
 use Rattle.ir_syntax.specs.declared.item.Module.{Module}
-use Rattle.ir_syntax.specs.FormedItem.{IsName}
+use Rattle.ir_types.specs.Names.{IsName}
 use Rattle.ir_syntax.specs.FormedBody.{item_name}
 
 abbrev pub no_flags : Flags

@@ -6,6 +6,7 @@ use Rattle.ir_types.specs.declared.scalar.Scalar.TheVariants.{I1, I8, I16, I32, 
 use Rattle.ir_types.specs.declared.shape.Ty.{Ty, out-Ty}
 use Rattle.ir_types.specs.declared.shape.Ty.TheOpen.{Ty-F}
 use Rattle.ir_types.specs.Nesting.{nesting, nodes}
+pub use Rattle.ir_types.specs.Scalars.{is_number_of}
 use Rattle.ir_syntax.specs.declared.constant.Const.{Const}
 use Rattle.ir_syntax.specs.declared.constant.Const.TheOpen.{Const-F}
 use Rattle.ir_syntax.specs.declared.constant.Const.TheFolds.{fold-Const}
@@ -14,15 +15,6 @@ use Rattle.ir_syntax.specs.declared.constant.Const.TheFolds.{fold-Const}
 pub record IsType (ty : Ty) : Type 0 where
   pub nests : nesting ty ≤ 64
   pub has_nodes : nodes ty ≤ 4096
-
--- the number is below 2^w of the integer type of width w; a pointer is no integer
-abbrev pub is_number_of : Scalar → ℕ → Bool
-is_number_of I1 n = nat_lt n 2
-is_number_of I8 n = nat_lt n (2 ^ 8)
-is_number_of I16 n = nat_lt n (2 ^ 16)
-is_number_of I32 n = nat_lt n (2 ^ 32)
-is_number_of I64 n = nat_lt n (2 ^ 64)
-is_number_of Ptr n = false
 
 abbrev pub is_pointer : Scalar → Bool
 is_pointer Ptr = true

@@ -26,8 +26,14 @@ use Rattle.ir_syntax.specs.declared.item.Item.{Item}
 use Rattle.ir_syntax.specs.declared.item.Item.TheVariants as item
 use Rattle.ir_syntax.specs.declared.item.Module.{Module}
 use Rattle.ir_syntax.specs.Edges.{edges}
-use Rattle.ir_syntax.specs.FormedBody.{is_intrinsic, is_intrinsic_item}
+use Rattle.ir_syntax.specs.FormedBody.{is_intrinsic_item}
 use Rattle.ir_syntax.specs.Results.{results}
+use Rattle.ir_syntax.specs.Intrinsics.{is_intrinsic}
+use Rattle.ir_syntax.specs.Named.{names}
+pub use Rattle.ir_types.specs.Scalars.{width, IsInteger}
+pub use Rattle.ir_syntax.specs.Intrinsics.{intrinsic_type}
+pub use Rattle.ir_syntax.specs.FunctionTypes.{type_of, function_type}
+pub use Rattle.ir_syntax.specs.Callees.{written_callee}
 
 -- ---- sizes
 
@@ -43,20 +49,6 @@ pub record Types : Type 0 where
   pub params : List Scalar
   pub results : List Scalar
 
--- the items that a constant names
-abbrev pub names_step : Const-F (List ℕ) → List ℕ
-names_step (Const-F.Int n) = []
-names_step Const-F.Null = []
-names_step (Const-F.Addr place offset) = place ∷ []
-names_step Const-F.Undef = []
-names_step Const-F.Poison = []
-names_step Const-F.Zero = []
-names_step (Const-F.Text bytes) = []
-names_step (Const-F.Many parts) = flat_map (λ part. part) parts
-
-unfoldable pub names : Const → List ℕ
-names = fold-Const (List ℕ) names_step
-
 -- An intrinsic is named as a callee alone.
 abbrev pub NamesNoIntrinsic : List Item → Const → Type 0
 NamesNoIntrinsic items constant = All (λ place. is_intrinsic_item (slice_get items place) ≡ false) (names constant)
@@ -67,18 +59,7 @@ HasType types ty (operand.Param k) = slice_get types.params k ≡ Some ty
 HasType types ty (operand.Reg k) = slice_get types.results k ≡ Some ty
 HasType types ty (operand.Const constant) = NamesNoIntrinsic types.items constant
 
-abbrev pub IsInteger : Scalar → Type 0
-IsInteger ty = ty ≢ Ptr
-
 -- ---- casts
-
-abbrev pub width : Scalar → ℕ
-width I1 = 1
-width I8 = 8
-width I16 = 16
-width I32 = 32
-width I64 = 64
-width Ptr = 64
 
 -- `zext` and `sext` go to a wider integer, `trunc` to a narrower one.
 abbrev pub Widths : CastOp → Scalar → Scalar → Type 0
@@ -119,24 +100,6 @@ IsWalk ty [] = Unit {0}
 IsWalk ty (first ∷ more) = Enters ty more
 
 -- ---- calls
-
-abbrev pub type_of : Func → FnType
-type_of func = record { params = map (λ param. param.ty) func.params; variadic = func.variadic; returns = func.returns }
-
-abbrev pub function_type : Option Item → Option FnType
-function_type None = None
-function_type (Some (item.Var var)) = None
-function_type (Some (item.Func func)) = Some (type_of func)
-
-abbrev pub place_in : Const-F Const → Option ℕ
-place_in (Const-F.Addr place (pos zero)) = Some place
-place_in _ = None
-
--- the place of the item whose name is written as the callee
-abbrev pub written_callee : Operand → Option ℕ
-written_callee (operand.Param k) = None
-written_callee (operand.Reg k) = None
-written_callee (operand.Const constant) = place_in (out-Const constant)
 
 -- A callee that is written as a name is a function of the written type; any other is a pointer.
 abbrev pub CalleeSuits : Types → FnType → Operand → Option ℕ → Type 0
@@ -192,14 +155,6 @@ pub record TypedBody (types : Types) (returns : Option Scalar) (blocks : List Bl
   pub each : (place : ℕ) → IfSome (slice_get blocks place) (TypedBlock types returns blocks place)
 
 -- ---- items
-
--- copies take two pointers, a length and a flag; a fill takes a byte for the second pointer
-abbrev pub intrinsic_type : List ℕ → FnType
-intrinsic_type name = record {
-  params = Ptr ∷ (if bytes_eq name (codes "llvm.memset.p0.i64") then I8 else Ptr) ∷ I64 ∷ I1 ∷ [];
-  variadic = false;
-  returns = None;
-}
 
 pub record TypedFunc (items : List Item) (func : Func) : Type 0 where
   pub intrinsic : IsTrue (is_intrinsic func.name) → type_of func ≡ intrinsic_type func.name

@@ -2,9 +2,16 @@
 #![tactic(auto)]
 
 mod body;
+mod callees;
 mod constant;
 mod copies;
+mod edges;
+mod function_types;
 mod item;
+mod known;
+mod mapped;
+mod named;
+mod operands;
 mod program;
 mod results;
 mod symbol;
@@ -12,6 +19,7 @@ mod symbol;
 pub use body::{Arg, Block, Body, Inst, Phi, Term};
 pub use constant::{Const, Operand};
 pub use item::{Func, Item, Linkage, Module, Param, Var};
+pub use mapped::MapOperand;
 pub use program::Program;
 pub use symbol::{Builtin, Intrinsic, Sym, SymName, Target};
 

@@ -1,25 +1,35 @@
 //! The results of a body, and how many instructions it has.
-ghost use Rattle.std.specs.Prelude.{◌≡◌, ◌+◌, ◌-◌, ◌^◌, ◌<◌, ◌↔◌, Some, IsSome, MatchResult, length, min, slice_get};
+ghost use Rattle.std.specs.Prelude.{◌≡◌, ◌+◌, ◌-◌, ◌^◌, ◌<◌, ◌↔◌, Some, is_some, IsSome, MatchResult, length, min, slice_get};
 ghost use Rattle.std.specs.List.{filter_map};
 ghost use Rattle.ir_syntax.specs.Results.{result_type, block_results, results, count};
 
 use crate::{Block, Body, Inst};
 use ir_types::Scalar;
 
-/// The type of the instruction's result, where it has one.
-fn result_of(inst: &Inst) -> Option<Scalar>
-    ensures { result ≡ result_type inst.now }
-{
-    match inst {
-        Inst::Bin { ty, .. } => Some(*ty),
-        Inst::Icmp { .. } => Some(Scalar::I1),
-        Inst::Select { ty, .. } => Some(*ty),
-        Inst::Cast { to, .. } => Some(*to),
-        Inst::Alloca { .. } => Some(Scalar::Ptr),
-        Inst::Load { ty, .. } => Some(*ty),
-        Inst::Store { .. } => None,
-        Inst::Gep { .. } => Some(Scalar::Ptr),
-        Inst::Call { fn_ty, .. } => fn_ty.returns,
+impl Inst {
+    /// The type of the instruction's result. `None` comes exactly where it has none: of a store, and of a call of a
+    /// function that returns `void`.
+    pub fn result_type(&self) -> Option<Scalar>
+        ensures { result ≡ result_type self.now }
+    {
+        match self {
+            Inst::Bin { ty, .. } => Some(*ty),
+            Inst::Icmp { .. } => Some(Scalar::I1),
+            Inst::Select { ty, .. } => Some(*ty),
+            Inst::Cast { to, .. } => Some(*to),
+            Inst::Alloca { .. } => Some(Scalar::Ptr),
+            Inst::Load { ty, .. } => Some(*ty),
+            Inst::Store { .. } => None,
+            Inst::Gep { .. } => Some(Scalar::Ptr),
+            Inst::Call { fn_ty, .. } => fn_ty.returns,
+        }
+    }
+
+    /// Whether the instruction has a result.
+    pub fn has_result(&self) -> bool
+        ensures { result ≡ is_some (result_type self.now) }
+    {
+        self.result_type().is_some()
     }
 }
 
@@ -29,7 +39,7 @@ fn inst_result(insts: &[Inst], k: usize) -> Result<Scalar, usize>
 {
     let mut left = k;
     for inst in insts {
-        match result_of(inst) {
+        match inst.result_type() {
             Some(ty) => {
                 if left == 0 {
                     return Ok(ty);

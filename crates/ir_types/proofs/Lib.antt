@@ -1,4 +1,5 @@
 pub mod Extents
+pub mod Naming
 pub mod Nestings
 pub mod Walks
 pub mod WorkedLayouts

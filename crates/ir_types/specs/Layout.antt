@@ -1,10 +1,12 @@
 -- Sizes, alignments and offsets in bytes. They are whole numbers without a bound.
-use Rattle.std.specs.Prelude.{ℕ, ◌+◌, ◌-◌, ◌*◌, ◌%◌, ◌^◌, ◌≤◌, List, [], ◌∷◌, Option, map, max, slice_get}
+use Rattle.std.specs.Prelude.{ℕ, ◌+◌, ◌-◌, ◌*◌, ◌%◌, ◌^◌, ◌≤◌, List, [], ◌∷◌, Option, map, max, slice_get, ⊤}
 use Rattle.ir_types.specs.declared.scalar.Scalar.{Scalar}
 use Rattle.ir_types.specs.declared.scalar.Scalar.TheVariants.{I1, I8, I16, I32, I64, Ptr}
 use Rattle.ir_types.specs.declared.shape.Ty.{Ty, out-Ty}
 use Rattle.ir_types.specs.declared.shape.Ty.TheOpen.{Ty-F}
 use Rattle.ir_types.specs.declared.shape.Ty.TheFolds.{fold-Ty}
+use Rattle.ir_types.specs.declared.layouts.LayoutFault.{LayoutFault}
+use Rattle.ir_types.specs.declared.layouts.LayoutFault.TheVariants as fault
 
 -- a scalar's size, which is its alignment too
 abbrev pub scalar_size : Scalar → ℕ
@@ -82,3 +84,8 @@ fields_of ty = fields_in (out-Ty ty)
 -- the offset of the struct's k-th field, where there is one
 abbrev pub offset_of : Ty → ℕ → Option ℕ
 offset_of ty k = slice_get (offsets_from 0 (map extent (fields_of ty))) k
+
+-- Why a struct of these fields has no list of offsets. Want of memory has no cause.
+abbrev pub IsLayoutCause : List Ty → LayoutFault → Type 0
+IsLayoutCause fields fault.TooWide = 2 ^ 31 ≤ struct_width (map extent fields)
+IsLayoutCause fields fault.OutOfMemory = ⊤

@@ -3,20 +3,20 @@
 
 mod bytes;
 mod copied;
-mod layout;
+mod layouts;
 mod memory;
+mod name;
 mod scalar;
+mod scalars;
 mod shape;
 mod walk;
 
 pub use bytes::Bytes;
 pub use copied::Copied;
-pub use layout::{align_of, field_offset, size_of};
+pub use layouts::{align_of, field_offset, size_of};
 pub use memory::OutOfMemory;
+pub use name::is_name;
 pub use scalar::{BinOp, CastOp, Ext, Flags, FnType, Known, Pred, Scalar};
 pub use shape::{Index, Stride, TooWide, Ty, WalkFault};
 pub use sqlite_items::{Boxed, Items as List};
 pub use walk::walk_indices;
-
-#[cfg(test)]
-mod tests;

@@ -1,12 +1,11 @@
 //! Walks into a type by indices, as `getelementptr` takes them.
 ghost use Rattle.std.specs.Prelude.{◌≡◌, ◌^◌, ◌<◌, ◌≤◌, ℕ, ◌++◌, ◌∷◌, Some, IfOk, OnOk, IfErr, OnErr, MatchOption, IsSome};
 ghost use Rattle.std.specs.Option.{option_copied, option_map};
-ghost use Rattle.ir_types.specs.Nesting.{IsWithinNesting};
 ghost use Rattle.ir_types.specs.Layout.{extent, IsTooWide};
 ghost use Rattle.ir_types.specs.declared.shape.Stride.TheVariants.{Each};
 ghost use Rattle.ir_types.specs.Walk.{place, part, stride, strides_within, strides, IsFirstLost, IsCause, IsWideOrNoMemory};
 
-use crate::{Index, Stride, TooWide, Ty, WalkFault, layout};
+use crate::{Index, Stride, TooWide, Ty, WalkFault, layouts};
 use sqlite_items::Items as List;
 use std::alloc::{AllocError, Global};
 
@@ -67,11 +66,11 @@ fn stride_at(ty: &Ty, index: Index) -> Result<Option<Stride>, TooWide>
     match ty {
         Ty::One(_) => Ok(None),
         Ty::Array(_, element) => {
-            let shape = layout::shape_of(element.get())?;
-            Ok(Some(Stride::Each(shape.size)))
+            let layout = layouts::layout_of(element.get())?;
+            Ok(Some(Stride::Each(layout.size)))
         }
         Ty::Struct(fields) => match place_of(index) {
-            Some(at) => match layout::offset_in(fields.as_slice(), at)? {
+            Some(at) => match layouts::offset_in(fields.as_slice(), at)? {
                 Some(offset) => Ok(Some(Stride::Field(offset))),
                 None => Ok(None),
             },
@@ -135,23 +134,23 @@ fn walk_on(alloc: Global, ty: &Ty, size: u32, others: &[Index]) -> Result<List<S
 ///
 /// `NoSuch { at }` is the first index, counted from 0, that enters a scalar, or names a field of a
 /// struct by a register or out of range. `TooWide` comes after it, where the type or one of its parts
-/// has a size of at least 2^31 bytes, and `OutOfMemory` where the list finds no memory.
+/// has a size of at least 2^31 bytes, and `OutOfMemory` where the list finds no memory. It recurses as deep as the
+/// type nests.
 pub fn walk_indices(alloc: Global, ty: &Ty, indices: &[Index]) -> Result<List<Stride>, WalkFault>
-    requires { IsWithinNesting ty.now }
     ensures strides { IfOk result (λ all. strides ty.now indices.now ≡ Some all) }
     ensures narrow { OnOk result (¬ IsTooWide ty.now) }
     ensures cause { IfErr result (λ fault. IsCause ty.now indices.now fault) }
 {
     match indices {
         [] => {
-            layout::size_of(ty)?;
+            layouts::size_of(ty)?;
             Ok(List::new(alloc))
         }
         [_, others @ ..] => {
             if let Some(at) = first_lost(ty, others) {
                 return Err(WalkFault::NoSuch { at: at + 1 });
             }
-            let size = layout::size_of(ty)?;
+            let size = layouts::size_of(ty)?;
             walk_on(alloc, ty, size, others)
         }
     }

@@ -1,5 +1,6 @@
 use Rattle.std.proofs.Common.{ap, ◌∙◌}
-use Rattle.ir_syntax.specs.Typed.{names, NamesNoIntrinsic}
+use Rattle.ir_syntax.specs.Named.{names}
+use Rattle.ir_syntax.specs.Typed.{NamesNoIntrinsic}
 use Rattle.ir_check.proofs.Loops.{all_stops, all_goes, all_ends}
 use Rattle.ir_check.proofs.NameLemmas.{names_none, names_one, names_parts, names-Int, names-Null, names-Addr, names-Undef, names-Poison, names-Zero, names-Text}
 use Rattle.ir_check.proofs.names.+names_no_intrinsic.Goals as goal

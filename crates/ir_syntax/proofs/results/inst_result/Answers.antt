@@ -6,7 +6,7 @@ use Rattle.ir_syntax.proofs.results.inst_result.Goals.{in-Some+else-left-eq0, in
 
 pub loop-inst-preserved : goal.loop-inst-preserved
 loop-inst-preserved c =
-    elim c.match-result_of.branch [
+    elim c.match-result_type.branch [
       | in-Some+else-left-eq0 w ↦
           let here = types_some c.args.insts.now c.loop-inst.inst-index c.inst-item.result w.in-Some.ty c.loop-inst-test.true c.inst-item.is w.in-Some.ensures in
           let above : 0 < c.loop-inst.left = omega (arith, w.if-left-eq0.false) in

@@ -6,8 +6,8 @@ use Rattle.ir_types.specs.declared.shape.Stride.TheVariants.{Each, Field}
 use Rattle.ir_types.specs.Layout.{size, IsTooWide}
 use Rattle.ir_types.proofs.walk.stride_at.Goals as goal
 
-pub returns-in_err-shape-in-Array-clause-wide : goal.returns-in_err-shape-in-Array-clause-wide
-returns-in_err-shape-in-Array-clause-wide c =
+pub returns-in_err-layout-in-Array-clause-wide : goal.returns-in_err-layout-in-Array-clause-wide
+returns-in_err-layout-in-Array-clause-wide c =
     let e = array_extent c.args.ty.now _ _ c.in-Array.is in
     let wide : IsTooWide c.args.ty.now = grind arith in
     search rules
@@ -21,9 +21,9 @@ returns-in_err-offset-in-Some-clause-wide c =
 pub returns-in-One-clause-ok : goal.returns-in-One-clause-ok
 returns-in-One-clause-ok c = sym (stride_at_One _ _ c.args.index c.in-One.is)
 
-pub returns-in_ok-shape-in-Array-clause-ok : goal.returns-in_ok-shape-in-Array-clause-ok
-returns-in_ok-shape-in-Array-clause-ok c =
-    ap (λ n. Some (Each n)) c.in_ok-shape-in-Array.ensures.size ∙ ap (λ t. Some (Each (size t))) c.get.ensures ∙ sym (stride_at_Array c.args.ty.now _ _ c.args.index c.in-Array.is)
+pub returns-in_ok-layout-in-Array-clause-ok : goal.returns-in_ok-layout-in-Array-clause-ok
+returns-in_ok-layout-in-Array-clause-ok c =
+    ap (λ n. Some (Each n)) c.in_ok-layout-in-Array.ensures.size ∙ ap (λ t. Some (Each (size t))) c.get.ensures ∙ sym (stride_at_Array c.args.ty.now _ _ c.args.index c.in-Array.is)
 
 pub returns-in-Some-2-clause-ok : goal.returns-in-Some-2-clause-ok
 returns-in-Some-2-clause-ok c =

@@ -1,7 +1,0 @@
-use Rattle.std.proofs.Common.{rules}
-use Rattle.ir_types.specs.Layout.{round_up}
-use Rattle.ir_types.proofs.layout.rounded_up.Goals as goal
-
-pub returns-clause-value : goal.returns-clause-value
-unfolding round_up
-returns-clause-value c = search rules

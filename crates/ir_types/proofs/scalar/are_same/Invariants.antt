@@ -1,0 +1,6 @@
+-- the types so far are the same
+use Rattle.std.proofs.Common.{◌≡◌, take}
+use Rattle.ir_types.proofs.scalar.are_same.Given as goal
+
+abbrev pub invariant-loop-i : goal.invariant-loop-i
+invariant-loop-i l = take l.i l.a ≡ take l.i l.b
