@@ -12,7 +12,7 @@ use Rattle.ir_body.specs.declared.blocks.Builder.{Builder}
 use Rattle.ir_body.specs.Lines.{Line}
 use Rattle.ir_body.specs.Bodies.{blocks_from}
 use Rattle.ir_body.specs.Building.{built, as_blocks}
-use Rattle.ir_body.proofs.Runs.{run_step, run_stop, run_bad}
+use Rattle.ir_operands.proofs.Runs.{run_step, run_stop, run_bad}
 
 -- what is built, and then the lines that are left
 abbrev pub finished : Builder → ℕ → Option (List Line × ℕ) → Option (List Block × ℕ)

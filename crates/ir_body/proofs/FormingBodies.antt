@@ -13,10 +13,10 @@ use Rattle.ir_grammar.specs.Walk.{Kept}
 use Rattle.ir_scope.specs.Scopes.{Env}
 use Rattle.ir_scope.specs.Types.{is_close_brace}
 use Rattle.ir_locals.specs.Locals.{locals_of, are_locals}
-use Rattle.ir_body.specs.Operands.{Names}
+use Rattle.ir_operands.specs.Operands.{Names}
 use Rattle.ir_body.specs.Lines.{Line, Labelled, OfPhi, OfInst, Dropped, Ends, line_at}
 use Rattle.ir_body.specs.Bodies.{blocks_from, body_of, results_in, blocks_in, is_counted, is_body, bounded, lines_at, behind_brace, body_with, body_at}
-use Rattle.ir_body.proofs.FormingReadings.{IsRead, read-run, read-closed}
+use Rattle.ir_operands.proofs.FormingReadings.{IsRead, read-run, read-closed}
 use Rattle.ir_body.proofs.FormingNames.{names_in, places_in, names-resolve}
 use Rattle.ir_body.proofs.FormingLines.{IsLine, line-read}
 

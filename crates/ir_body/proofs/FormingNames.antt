@@ -21,10 +21,11 @@ use Rattle.ir_locals.specs.declared.local.Local.{Local}
 use Rattle.ir_locals.specs.declared.local.Local.TheVariants.{Param, Reg, Block}
 use Rattle.ir_locals.specs.Locals.{has_result, is_label, result_name, results_from, label_names, decimals, block_names, begins_labelled, locals_of, local_name, local_among, operand_in, block_in}
 use Rattle.ir_locals.proofs.Found.{param_within, reg_within, block_within}
-use Rattle.ir_body.specs.Operands.{Names, operand_at, block_at}
+use Rattle.ir_operands.specs.Operands.{Names, operand_at, block_at}
 use Rattle.ir_body.specs.Bodies.{results_in, blocks_in}
-use Rattle.ir_body.proofs.FormingReadings.{IsRead, read-map}
-use Rattle.ir_body.proofs.FormingConstants.{constant-suits}
+use Rattle.ir_operands.proofs.FormingReadings.{IsRead, read-map}
+use Rattle.ir_operands.proofs.FormingConstants.{constant-suits}
+use Rattle.ir_operands.proofs.FormingOperands.{Resolves}
 
 -- ---- how many there are
 
@@ -48,14 +49,6 @@ blocks-count params ks = cases (decimal (decimals params)) (begins_labelled ks)
     cases first false = omega (arith, labels-count ks)
 
 -- ---- operands and blocks
-
--- What names and constants stand for is there, among these places.
-pub record Resolves (names : Names) (places : Places) : Type 0 where
-  pub operands : (ty : Scalar) (ks : List Kept) → IsRead (IsOperand places ty) (operand_at names ty ks)
-  pub blocks : (ks : List Kept) → IsRead (λ place. place < places.blocks) (block_at names ks)
-  -- the names of the items in their order, each once
-  pub symbols : names.env.symbols ≡ map item_name places.items
-  pub distinct : AllPairs (λ a b. a ≢ b) names.env.symbols
 
 no-constant : (found : Option Local) (c : Const) → operand_in found ≡ Some (operand.Const c) → ⊥
 no-constant None c e = cc

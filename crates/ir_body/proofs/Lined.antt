@@ -6,7 +6,7 @@ use Rattle.ir_grammar.specs.declared.shape.Shape.TheVariants as is
 use Rattle.ir_grammar.specs.Walk.{Kept}
 use Rattle.ir_body.specs.declared.lines.Line.{Line as SeenLine}
 use Rattle.ir_body.specs.Naming.{lines_seen}
-use Rattle.ir_body.specs.Operands.{Names}
+use Rattle.ir_operands.specs.Operands.{Names}
 use Rattle.ir_body.specs.Lines.{Line, line_at}
 use Rattle.ir_body.specs.Shaped.{plain_line_at, shaped_line_at, named_line_at, first_shape}
 

@@ -5,7 +5,7 @@ use Rattle.ir_syntax.specs.declared.body.Body.{Body}
 use Rattle.ir_grammar.specs.Walk.{Kept, Piece}
 use Rattle.ir_scope.specs.Scopes.{Env}
 use Rattle.ir_locals.specs.Locals.{Local, locals_of, are_locals}
-use Rattle.ir_body.specs.Operands.{Names}
+use Rattle.ir_operands.specs.Operands.{Names}
 use Rattle.ir_body.specs.Bodies.{SpellsBody, spelled_body, behind_brace, body_with, body_at}
 use Rattle.ir_body.specs.Building.{lined_body_at}
 

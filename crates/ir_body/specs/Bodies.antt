@@ -13,7 +13,7 @@ use Rattle.ir_scope.specs.Runs.{Reading, runs, closed_by}
 use Rattle.ir_scope.specs.Scopes.{Env}
 use Rattle.ir_scope.specs.Types.{is_close_brace}
 use Rattle.ir_locals.specs.Locals.{Local, has_result, is_label, begins_labelled, locals_of, are_locals}
-use Rattle.ir_body.specs.Operands.{Names}
+use Rattle.ir_operands.specs.Operands.{Names}
 use Rattle.ir_body.specs.Lines.{Line, Labelled, OfPhi, OfInst, Dropped, Ends, line_at}
 
 -- The blocks of lines: each ends with its terminator. What stands before it was gathered.

@@ -4,7 +4,7 @@ use Rattle.ir_syntax.specs.declared.body.Block.{Block}
 use Rattle.ir_syntax.specs.declared.body.Body.{Body}
 use Rattle.ir_grammar.specs.Walk.{Kept}
 use Rattle.ir_body.specs.declared.blocks.Builder.{Builder}
-use Rattle.ir_body.specs.Operands.{Names}
+use Rattle.ir_operands.specs.Operands.{Names}
 use Rattle.ir_body.specs.Lines.{Line}
 use Rattle.ir_body.specs.Bodies.{blocks_from, body_of, bounded, lines_at}
 

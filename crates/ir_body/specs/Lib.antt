@@ -1,5 +1,5 @@
-pub mod Operands
-pub mod Calls
+pub use Rattle.ir_operands.specs.Operands
+pub use Rattle.ir_calls.specs.Calls
 pub mod Lines
 pub mod Bodies
 pub mod Naming

@@ -1,16 +1,10 @@
--- What contracts see of the names of a function, and of lines.
+-- What contracts see of lines.
 use Rattle.std.specs.Prelude.{ℕ, List, count_by, Option, option_map}
 use Rattle.ir_grammar.specs.Walk.{Kept}
 use Rattle.ir_locals.specs.Locals.{is_label}
-use Rattle.ir_scope.specs.Scopes.{env_of}
-use Rattle.ir_body.specs.declared.names.Names.{Names as Naming}
 use Rattle.ir_body.specs.declared.lines.Line.{Line as SeenLine}
 use Rattle.ir_body.specs.declared.lines.Line.TheVariants as seen_as
-use Rattle.ir_body.specs.Operands.{Names}
 use Rattle.ir_body.specs.Lines.{Line, Labelled, OfPhi, OfInst, Dropped, Ends}
-
-unfoldable pub naming : Naming → Names
-naming names = record { env = env_of names.scope.now; locals = names.locals.now }
 
 abbrev pub line_of : SeenLine → Line
 line_of seen_as.Labelled = Labelled

@@ -5,15 +5,15 @@ ghost use Rattle.ir_grammar.specs.Walk.{seen};
 ghost use Rattle.ir_scope.specs.Runs.{runs};
 ghost use Rattle.ir_body.specs.Lines.{Line as LineValue, line_at};
 ghost use Rattle.ir_body.specs.Bodies.{bounded, is_body};
-ghost use Rattle.ir_body.specs.Naming.{naming, line_of};
+ghost use Rattle.ir_operands.specs.Naming.{naming};
+ghost use Rattle.ir_body.specs.Naming.{line_of};
 ghost use Rattle.ir_body.specs.Shaped.{begins_line};
 ghost use Rattle.ir_body.specs.Building.{built, as_blocks, lined_body_at};
 
 use crate::counting::is_counted;
 use crate::lines::{Line, begins_line, closes_brace, read_line};
-use crate::names::Names;
-use crate::operands::after;
 use ir_grammar::Lexeme;
+use ir_operands::{Names, after};
 use ir_syntax::{Block, Body, Inst, Phi, Term};
 use ir_types::{List, OutOfMemory};
 use std::alloc::Global;

@@ -3,17 +3,17 @@ ghost use Rattle.std.specs.Prelude.{◌≡◌, ◌+◌, ◌≤◌, length, IfOk,
 ghost use Rattle.ir_grammar.specs.Walk.{seen};
 ghost use Rattle.ir_scope.specs.Runs.{begins_with};
 ghost use Rattle.ir_scope.specs.Types.{is_close_brace};
-ghost use Rattle.ir_body.specs.Naming.{naming, line_of, lines_seen};
+ghost use Rattle.ir_operands.specs.Naming.{naming};
+ghost use Rattle.ir_body.specs.Naming.{line_of, lines_seen};
 ghost use Rattle.ir_body.specs.Lines.{inst_line, dropped_or, term_line, verb_at, line_at};
 ghost use Rattle.ir_body.specs.Shaped.{begins_line, call_line, phi_line, named_line_at, plain_line_at, shaped_line_at, first_shape};
 
-use crate::calls::call;
-use crate::insts::{alloca, bin, cast, gep, icmp, load, select, store};
-use crate::names::Names;
-use crate::operands::after;
-use crate::terms::{br, phi, ret, switch};
+use ir_calls::call;
 use ir_grammar::{Lexeme, Shape};
+use ir_insts::{alloca, bin, cast, gep, icmp, load, select, store};
+use ir_operands::{Names, after};
 use ir_syntax::{Inst, Phi, Term};
+use ir_terms::{br, phi, ret, switch};
 use ir_types::OutOfMemory;
 use std::alloc::Global;
 

@@ -7,10 +7,10 @@ ghost use Rattle.ir_body.specs.Bodies.{behind_brace, body_at, spelled_body, Spel
 ghost use Rattle.ir_body.specs.Faults.{IsBodyCause};
 
 use crate::blocks::lined_body;
-use crate::names::Names;
 use ir_grammar::{Lexeme, Symbol, walk};
 use ir_lexer::Token;
 use ir_locals::Locals;
+use ir_operands::Names;
 use ir_scope::Scope;
 use ir_syntax::{Body, Func};
 use ir_types::{Bytes, OutOfMemory};

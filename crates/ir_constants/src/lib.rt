@@ -10,6 +10,3 @@ mod symbols;
 
 pub use constants::read_constant;
 pub use laws::constants_suit;
-
-#[cfg(test)]
-mod tests;

@@ -16,8 +16,6 @@ mod shape;
 mod shapes;
 mod stack;
 mod symbol;
-#[cfg(test)]
-mod tests;
 mod turns;
 mod types;
 mod values;

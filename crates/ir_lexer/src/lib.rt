@@ -5,8 +5,6 @@ mod class;
 mod front;
 mod laws;
 mod lexing;
-#[cfg(test)]
-mod tests;
 mod text;
 mod token;
 

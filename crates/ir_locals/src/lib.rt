@@ -6,8 +6,6 @@ mod local;
 mod name;
 mod shapes;
 mod table;
-#[cfg(test)]
-mod tests;
 
 pub use laws::{locals_are_distinct, locals_are_within};
 pub use local::Local;

@@ -31,12 +31,12 @@ use Rattle.ir_scope.specs.Scopes.{Env}
 use Rattle.ir_scope.specs.Types.{written_type}
 use Rattle.ir_constants.specs.Constants.{constant_at}
 use Rattle.ir_locals.specs.Locals.{is_name}
-use Rattle.ir_body.specs.Calls.{ext_at}
+use Rattle.ir_operands.specs.Marks.{ext_at}
 use Rattle.ir_body.specs.Bodies.{body_at}
-use Rattle.ir_body.proofs.FormingReadings.{IsRead}
-use Rattle.ir_body.proofs.FormingTypes.{exponent-few, written-read}
+use Rattle.ir_operands.proofs.FormingReadings.{IsRead}
+use Rattle.ir_operands.proofs.FormingTypes.{exponent-few, written-read}
 use Rattle.ir_body.proofs.FormingBodies.{body-read}
-use Rattle.ir_body.proofs.FormingConstants.{constant-suits}
+use Rattle.ir_operands.proofs.FormingConstants.{constant-suits}
 use Rattle.ir_parser.specs.Items.{first_symbol, item_name_of, last_align, is_constant, is_plain, made_var, valued, var_kind, var_linked, var_of, names_from, params_at, are_params, Head, head_with, head_named, head_returning, head_extended, declared, declaration_of, with_body, defined, head_linked, definition_of, item_of}
 
 -- ---- names

@@ -1,6 +1,4 @@
-pub mod Readings
 pub mod NameLists
-pub mod Powers
 pub mod Heading
 pub mod Splitting
 pub mod Resolving

@@ -30,7 +30,7 @@ use Rattle.ir_scope.specs.Scopes.{Env}
 use Rattle.ir_scope.specs.Types.{written_type}
 use Rattle.ir_constants.specs.Constants.{is_close_paren, constant_at}
 use Rattle.ir_locals.specs.Locals.{is_name, local_name}
-use Rattle.ir_body.specs.Calls.{ext_at, is_scalar, dots_at}
+use Rattle.ir_operands.specs.Marks.{ext_at, is_scalar, dots_at}
 use Rattle.ir_body.specs.Bodies.{body_at}
 
 -- ---- names of items

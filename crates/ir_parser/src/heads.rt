@@ -8,10 +8,11 @@ ghost use Rattle.ir_parser.specs.Items.{is_plain, head_with, head_named, head_re
 ghost use Rattle.ir_parser.specs.Steps.{head_of};
 
 use crate::params::{are_params, names, params, types};
-use crate::pieces::{behind, ext, name};
+use crate::spelling::name;
 use ir_body::resolve_body;
 use ir_grammar::{Lexeme, Shape};
 use ir_locals::is_name;
+use ir_operands::{after, ext};
 use ir_scope::Scope;
 use ir_syntax::{Body, Func, Item, Linkage};
 use ir_types::{Bytes, Ext, OutOfMemory, Scalar};
@@ -80,7 +81,7 @@ fn head_with<'a>(
     Ok(Some(Head {
         func,
         names,
-        rest: behind(kept, count),
+        rest: after(kept, count),
     }))
 }
 
@@ -140,7 +141,7 @@ fn head_extended<'a>(
     ensures { IfOk result (λ found. option_map head_of found ≡ head_extended linkage (seen kept.now)) }
 {
     let (ext, count) = ext(kept);
-    head_returning(alloc, linkage, ext, behind(kept, count))
+    head_returning(alloc, linkage, ext, after(kept, count))
 }
 
 /// The head of a definition, external where no linkage is written.

@@ -11,7 +11,7 @@ ghost use Rattle.ir_parser.specs.Steps.{resolved_as, IsItemsCause};
 use crate::entities::Entity;
 use crate::fault::ReadFault;
 use crate::heads::{declaration, definition};
-use crate::pieces::name;
+use crate::spelling::name;
 use crate::variables::variable;
 use ir_grammar::{AtName, Lexeme, Shape};
 use ir_scope::Scope;

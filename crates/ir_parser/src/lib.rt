@@ -7,11 +7,9 @@ mod heads;
 mod items;
 mod laws;
 mod params;
-mod pieces;
 mod reading;
+mod spelling;
 mod targets;
-#[cfg(test)]
-mod tests;
 mod variables;
 
 pub use fault::ReadFault;

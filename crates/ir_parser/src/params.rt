@@ -5,13 +5,14 @@ ghost use Rattle.name_table.specs.Places.{are_distinct};
 ghost use Rattle.ir_grammar.specs.Walk.{seen};
 ghost use Rattle.ir_scope.specs.Runs.{runs};
 ghost use Rattle.ir_locals.specs.Locals.{is_name};
-ghost use Rattle.ir_body.specs.Calls.{is_scalar};
+ghost use Rattle.ir_operands.specs.Marks.{is_scalar};
 ghost use Rattle.ir_parser.specs.Items.{named_at, param_at, params_at, names_from, are_params};
 ghost use Rattle.ir_parser.specs.Steps.{name_or, counts};
 
-use crate::pieces::{begins_scalar, behind, closes, dots, ext, name};
+use crate::spelling::name;
 use ir_grammar::{Lexeme, Shape};
 use ir_locals::{decimal_name, is_decimal, is_name};
+use ir_operands::{after, begins_scalar, closes_paren, dots, ext};
 use ir_syntax::Param;
 use ir_types::{Bytes, OutOfMemory};
 use name_table::Names;
@@ -47,7 +48,7 @@ fn param(
         [first, rest @ ..] => match first.shape {
             Shape::Scalar(ty) => {
                 let (ext, marked) = ext(rest);
-                let (name, named) = named(alloc, behind(rest, marked))?;
+                let (name, named) = named(alloc, after(rest, marked))?;
                 Ok(Some(((Param { ty, ext }, name), 1 + marked + named)))
             }
             _ => Ok(None),
@@ -66,8 +67,12 @@ fn fixed_params(
 {
     let mut params = List::new(alloc);
     let mut at = 0;
-    'reading: while begins_scalar(behind(kept, at)) {
-        match param(alloc, behind(kept, at))? {
+    'reading: loop {
+        let rest = after(kept, at);
+        if !begins_scalar(rest) {
+            return Ok(Some((params, at)));
+        }
+        match param(alloc, rest)? {
             Some((param, count)) => {
                 params.push(param)?;
                 at += count;
@@ -75,7 +80,6 @@ fn fixed_params(
             None => return Ok(None),
         }
     }
-    Ok(Some((params, at)))
 }
 
 /// The parameters behind an opening parenthesis, whether there are more than are written, and how many lexemes that is
@@ -91,9 +95,9 @@ pub(crate) fn params(
         Some(found) => found,
         None => return Ok(None),
     };
-    let (variadic, more) = dots(behind(kept, count));
+    let (variadic, more) = dots(after(kept, count));
     let end = count + more;
-    if closes(behind(kept, end)) {
+    if closes_paren(after(kept, end)) {
         Ok(Some(((params, variadic), end + 1)))
     } else {
         Ok(None)

@@ -1,28 +1,17 @@
 //! Variables.
 ghost use Rattle.std.specs.Prelude.{◌≡◌, None, IfOk};
-ghost use Rattle.ir_grammar.specs.Numbers.{number_of, exponent_of};
 ghost use Rattle.ir_grammar.specs.Walk.{seen};
 ghost use Rattle.ir_scope.specs.Scopes.{env_of};
 ghost use Rattle.ir_parser.specs.Items.{last_align, is_constant, made_var, valued, var_kind, var_linked, var_of};
 
 use crate::heads::is_plain;
-use crate::pieces::behind;
 use ir_constants::read_constant;
-use ir_grammar::{Digits, Lexeme, Shape, exponent_of, number_of};
+use ir_grammar::{Digits, Lexeme, Shape};
+use ir_operands::{after, exponent};
 use ir_scope::{Scope, read_type};
 use ir_syntax::{Const, Item, Linkage, Var};
 use ir_types::{Bytes, OutOfMemory};
 use std::alloc::Global;
-
-/// The exponent of the power of two that these digits write.
-fn exponent(digits: &[u8]) -> Option<u8>
-    ensures { result ≡ exponent_of (number_of digits.now) }
-{
-    match number_of(digits) {
-        Some(number) => exponent_of(number),
-        None => None,
-    }
-}
 
 /// The alignment behind a variable: the last of those that are written.
 fn last_align(kept: &[Lexeme]) -> Option<u8>
@@ -72,7 +61,7 @@ fn valued(
         return Ok(Some(made(var, None, kept)));
     }
     match read_constant(alloc, scope, &var.ty, kept)? {
-        Some((init, count)) => Ok(Some(made(var, Some(init), behind(kept, count)))),
+        Some((init, count)) => Ok(Some(made(var, Some(init), after(kept, count)))),
         None => Ok(None),
     }
 }
@@ -102,7 +91,7 @@ fn variable_kind(
                 init: None,
                 align: None,
             };
-            valued(alloc, scope, var, declared, behind(kept, count))
+            valued(alloc, scope, var, declared, after(kept, count))
         }
         None => Ok(None),
     }

@@ -12,6 +12,3 @@ pub use integers::{extend, read_number};
 pub use sameness::{same_type, same_type_is_equality};
 pub use scope::{Scope, ScopeFault};
 pub use types::read_type;
-
-#[cfg(test)]
-mod tests;

@@ -1,5 +1,9 @@
+pub mod MappedLemmas
 pub mod NameLemmas
 pub mod ResultLemmas
+pub mod Sent
+pub mod Shared
+pub mod SoundLemmas
 pub mod SuitLemmas
 pub mod WorkedItems
 pub mod WorkedRows

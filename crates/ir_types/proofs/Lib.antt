@@ -1,5 +1,7 @@
 pub mod Extents
 pub mod Naming
 pub mod Nestings
+pub mod Sent
+pub mod Shared
 pub mod Walks
 pub mod WorkedLayouts

@@ -6,8 +6,6 @@ mod expand;
 mod laws;
 mod learn;
 mod named;
-#[cfg(test)]
-mod tests;
 mod uses;
 
 pub use expand::{ExpandedTypes, expand_types};

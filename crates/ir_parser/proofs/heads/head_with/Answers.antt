@@ -14,10 +14,10 @@ returns-then-not-branch c =
 
 pub returns : goal.returns
 returns c =
-    head_found _ c.args.linkage c.args.returns c.args.ret_ext (seen c.args.kept.now) c.in-Some.found.0.0 c.in-Some.found.0.1 c.in-Some.found.1 c.in_ok-names.names c.in_ok-types.field-0 (seen c.behind.result.now)
+    head_found _ c.args.linkage c.args.returns c.args.ret_ext (seen c.args.kept.now) c.in-Some.found.0.0 c.in-Some.found.0.1 c.in-Some.found.1 c.in_ok-names.names c.in_ok-types.field-0 (seen c.after.result.now)
     (sym c.in_ok-found.ensures.exact ∙ c.in-Some.is)
     (c.in_ok-names.ensures ∙ ap (λ ps. names_from 0 (map (λ p. p.1) ps)) c.as_slice.ensures)
     (ap are_params (sym c.as_slice-2.ensures) ∙ sym c.in_ok-are_params.ensures ∙ c.if-not-branch.false)
     (c.in_ok-types.ensures ∙ ap (map (λ p. p.0)) c.as_slice-3.ensures)
-    c.behind.ensures.rest
+    c.after.ensures.rest
     ∙ ap (λ n. head_with n c.args.linkage c.args.returns c.args.ret_ext (seen c.args.kept.now)) c.name.view_is

@@ -1,7 +1,0 @@
--- the types so far
-use Rattle.std.proofs.Common.{◌≡◌, take}
-use Rattle.ir_body.specs.Shaped.{arg_types}
-use Rattle.ir_body.proofs.calls.types_of.Given as goal
-
-abbrev pub invariant-loop-arg : goal.invariant-loop-arg
-invariant-loop-arg l = l.types ≡ arg_types (take l.arg-index l.args)

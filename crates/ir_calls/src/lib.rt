@@ -1,0 +1,6 @@
+//! Calls, from what is kept of their tokens.
+#![tactic(auto)]
+
+mod calls;
+
+pub use calls::call;

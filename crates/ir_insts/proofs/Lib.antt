@@ -1,0 +1,2 @@
+mod Geps
+pub mod FormingInsts

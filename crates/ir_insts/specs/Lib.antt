@@ -1,0 +1,2 @@
+pub mod Insts
+pub mod Shaped

@@ -1,0 +1,8 @@
+mod Gathered
+mod Powers
+pub mod Kept
+pub mod Runs
+pub mod FormingReadings
+pub mod FormingTypes
+pub mod FormingConstants
+pub mod FormingOperands

@@ -1,0 +1,4 @@
+pub mod Operands
+pub mod Marks
+pub mod Naming
+pub mod Shaped

@@ -1,8 +1,0 @@
-use Rattle.std.proofs.Common.{◌∙◌, ap}
-use Rattle.std.proofs.lemmas.List.{take_rest}
-use Rattle.ir_grammar.specs.Walk.{seen}
-use Rattle.ir_parser.proofs.Readings.{seen-drop}
-use Rattle.ir_parser.proofs.pieces.behind.Goals as goal
-
-pub returns-clause-rest : goal.returns-clause-rest
-returns-clause-rest c = ap seen (take_rest c.args.kept.now c.args.count) ∙ seen-drop c.args.count c.args.kept.now
