@@ -11,6 +11,7 @@ mod laws;
 mod outcome;
 mod shifts;
 mod sums;
+mod wrapping;
 
 pub use binary::bin;
 pub use casts::cast;

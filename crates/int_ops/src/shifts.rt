@@ -3,6 +3,7 @@ ghost use Rattle.std.specs.Prelude.{◌≡◌};
 ghost use Rattle.int_ops.specs.Shifts.{shl_outcome, lshr_outcome, ashr_outcome};
 
 use crate::Outcome;
+use crate::wrapping::unless_wrapped;
 use ir_types::{Flags, Scalar};
 
 pub fn shl(flags: Flags, width: Scalar, a: u64, by: u64) -> Outcome
@@ -14,11 +15,7 @@ pub fn shl(flags: Flags, width: Scalar, a: u64, by: u64) -> Outcome
     let shifted = width.truncated(a << by);
     let comes_back = shifted >> by == a;
     let comes_back_signed = width.signed(shifted) >> by == width.signed(a);
-    if (flags.nuw && !comes_back) || (flags.nsw && !comes_back_signed) {
-        Outcome::Poison
-    } else {
-        Outcome::Num(shifted)
-    }
+    unless_wrapped(flags, comes_back, comes_back_signed, shifted)
 }
 
 pub fn lshr(exact: bool, width: Scalar, a: u64, by: u64) -> Outcome

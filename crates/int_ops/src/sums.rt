@@ -1,10 +1,10 @@
 //! Sums, differences and products.
-ghost use Rattle.std.specs.Prelude.{◌≡◌, ◌&&◌, false, IfSome, IfNone};
+ghost use Rattle.std.specs.Prelude.{◌≡◌, false, IfSome, IfNone};
 ghost use Rattle.ir_types.specs.Scalars.{is_number_of};
-ghost use Rattle.int_ops.specs.Outcomes.{implies, poison_unless};
 ghost use Rattle.int_ops.specs.Sums.{is_signed, add_outcome, sub_outcome, mul_outcome};
 
 use crate::Outcome;
+use crate::wrapping::unless_wrapped;
 use ir_types::{Flags, Scalar};
 
 /// Whether an unsigned result is in the range of the width. `None` is one that no u64 holds.
@@ -29,23 +29,12 @@ fn fits_signed(width: Scalar, signed: Option<i64>) -> bool
     }
 }
 
-/// The result modulo 2^w, or poison where a flag asks for a range that it isn't in.
-fn wrapped(flags: Flags, fits_unsigned: bool, fits_signed: bool, number: u64) -> Outcome
-    ensures { result ≡ poison_unless (implies flags.nuw fits_unsigned && implies flags.nsw fits_signed) number }
-{
-    if (flags.nuw && !fits_unsigned) || (flags.nsw && !fits_signed) {
-        Outcome::Poison
-    } else {
-        Outcome::Num(number)
-    }
-}
-
 pub fn add(flags: Flags, width: Scalar, a: u64, b: u64) -> Outcome
     ensures { result ≡ add_outcome flags width a b }
 {
     let unsigned = fits_unsigned(width, a.checked_add(b));
     let signed = fits_signed(width, width.signed(a).checked_add(width.signed(b)));
-    wrapped(flags, unsigned, signed, width.truncated(a.wrapping_add(b)))
+    unless_wrapped(flags, unsigned, signed, width.truncated(a.wrapping_add(b)))
 }
 
 pub fn sub(flags: Flags, width: Scalar, a: u64, b: u64) -> Outcome
@@ -53,7 +42,7 @@ pub fn sub(flags: Flags, width: Scalar, a: u64, b: u64) -> Outcome
 {
     let unsigned = fits_unsigned(width, a.checked_sub(b));
     let signed = fits_signed(width, width.signed(a).checked_sub(width.signed(b)));
-    wrapped(flags, unsigned, signed, width.truncated(a.wrapping_sub(b)))
+    unless_wrapped(flags, unsigned, signed, width.truncated(a.wrapping_sub(b)))
 }
 
 pub fn mul(flags: Flags, width: Scalar, a: u64, b: u64) -> Outcome
@@ -61,5 +50,5 @@ pub fn mul(flags: Flags, width: Scalar, a: u64, b: u64) -> Outcome
 {
     let unsigned = fits_unsigned(width, a.checked_mul(b));
     let signed = fits_signed(width, width.signed(a).checked_mul(width.signed(b)));
-    wrapped(flags, unsigned, signed, width.truncated(a.wrapping_mul(b)))
+    unless_wrapped(flags, unsigned, signed, width.truncated(a.wrapping_mul(b)))
 }
