@@ -1,3 +1,4 @@
+pub mod OfType
 pub mod Ranges
 pub mod SignedTests
 pub mod WorkedOutcomes

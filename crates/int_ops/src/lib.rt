@@ -17,5 +17,5 @@ pub use binary::bin;
 pub use casts::cast;
 pub use cause::Cause;
 pub use comparisons::icmp;
-pub use laws::{casts_are_of_their_type, results_are_of_their_type};
+pub use laws::{casts_are_of_their_type, comparisons_are_bits, results_are_of_their_type};
 pub use outcome::Outcome;
