@@ -1,5 +1,5 @@
 -- The number that an operation gives, if it gives one, is one of the result's type.
-use Rattle.std.proofs.Common.{◌≡◌, ℕ, ◌+◌, ◌-◌, ◌*◌, ◌/◌, ◌%◌, ◌^◌, ◌<◌, ◌≤◌, Bool, true, false, ℤ, pos, negsuc, ◌+ℤ◌, ◌-ℤ◌, ◌*ℤ◌, ◌&&◌, int_eq, int_div, int_rem, cond, refl, sym, subst, arith, rules, IsTrue, Option, Some, None, IfSome, bit_and, bit_or, bit_xor}
+use Rattle.std.proofs.Common.{◌≡◌, ℕ, ◌^◌, ◌<◌, ◌≤◌, Bool, true, false, ℤ, pos, negsuc, ◌+ℤ◌, ◌-ℤ◌, ◌*ℤ◌, ◌&&◌, int_eq, int_div, int_rem, cond, refl, subst, arith, rules, IsTrue, Option, Some, None, IfSome}
 use Rattle.std.proofs.Math.Nat.{div-le_self, mod-le}
 use Rattle.std.proofs.lemmas.Nat.{and_le_l, or_lt, xor_lt, pow_below, pow_pos, mod_below}
 use Rattle.ir_types.specs.declared.scalar.Scalar.{Scalar}
@@ -19,7 +19,7 @@ use Rattle.int_ops.specs.Outcomes.{implies, poison_unless}
 use Rattle.int_ops.specs.Sums.{is_unsigned, is_signed, wrapped}
 use Rattle.int_ops.specs.Divisions.{overflows, signed_division}
 use Rattle.int_ops.specs.Binary.{bin_outcome}
-use Rattle.int_ops.specs.Casts.{GoesTo, cast_outcome}
+use Rattle.int_ops.specs.Casts.{cast_outcome}
 use Rattle.int_ops.specs.Comparisons.{icmp_holds}
 use Rattle.int_ops.specs.PoisonOperands.{divides, bin_of_values, cast_of_value, icmp_of_values}
 
@@ -115,13 +115,13 @@ values_are op flags ty (Some a) None h k = if_is ty (divides op) _ _ (undefined_
 values_are op flags ty None (Some b) h k = if_is ty _ _ _ (undefined_is ty _) (poison_is ty)
 values_are op flags ty None None h k = if_is ty (divides op) _ _ (undefined_is ty _) (poison_is ty)
 
-cast_is : (op : CastOp) (nneg : Bool) (from to : Scalar) (a : ℕ) → IsInteger to → GoesTo op from to → IsTrue (is_number_of from a) → IsOf to (cast_outcome op nneg from to a)
+cast_is : (op : CastOp) (nneg : Bool) (from to : Scalar) (a : ℕ) → IsInteger to → (op ≡ Zext → width from < width to) → IsTrue (is_number_of from a) → IsOf to (cast_outcome op nneg from to a)
 unfolding cast_outcome
-cast_is Zext nneg from to a i goes h = unless_is to _ a (is_number to a i (omega (arith, below from a h, pow_below (width from) (width to) goes)))
+cast_is Zext nneg from to a i goes h = unless_is to _ a (is_number to a i (omega (arith, below from a h, pow_below (width from) (width to) (goes refl))))
 cast_is Sext nneg from to a i goes h = num_is to _ (is_modulo to _ i)
 cast_is Trunc nneg from to a i goes h = num_is to _ (is_remainder to a i)
 
-cast_value_is : (op : CastOp) (nneg : Bool) (from to : Scalar) (a : Option ℕ) → IsInteger to → GoesTo op from to → IfSome a (λ m. IsTrue (is_number_of from m)) → IsOf to (cast_of_value op nneg from to a)
+cast_value_is : (op : CastOp) (nneg : Bool) (from to : Scalar) (a : Option ℕ) → IsInteger to → (op ≡ Zext → width from < width to) → IfSome a (λ m. IsTrue (is_number_of from m)) → IsOf to (cast_of_value op nneg from to a)
 cast_value_is op nneg from to (Some a) i goes h = cast_is op nneg from to a i goes h
 cast_value_is op nneg from to None i goes h = poison_is to
 
@@ -147,10 +147,10 @@ bin_law op flags ty a b n h k e = given ty _ n (bin_is op flags ty a b h k) e
 pub values_law : (op : BinOp) (flags : Flags) (ty : Scalar) (a b : Option ℕ) (n : ℕ) → IfSome a (λ m. IsTrue (is_number_of ty m)) → IfSome b (λ m. IsTrue (is_number_of ty m)) → bin_of_values op flags ty a b ≡ Num n → IsTrue (is_number_of ty n)
 values_law op flags ty a b n h k e = given ty _ n (values_are op flags ty a b h k) e
 
-pub cast_law : (op : CastOp) (nneg : Bool) (from to : Scalar) (a n : ℕ) → IsInteger to → GoesTo op from to → IsTrue (is_number_of from a) → cast_outcome op nneg from to a ≡ Num n → IsTrue (is_number_of to n)
+pub cast_law : (op : CastOp) (nneg : Bool) (from to : Scalar) (a n : ℕ) → IsInteger to → (op ≡ Zext → width from < width to) → IsTrue (is_number_of from a) → cast_outcome op nneg from to a ≡ Num n → IsTrue (is_number_of to n)
 cast_law op nneg from to a n i goes h e = given to _ n (cast_is op nneg from to a i goes h) e
 
-pub cast_value_law : (op : CastOp) (nneg : Bool) (from to : Scalar) (a : Option ℕ) (n : ℕ) → IsInteger to → GoesTo op from to → IfSome a (λ m. IsTrue (is_number_of from m)) → cast_of_value op nneg from to a ≡ Num n → IsTrue (is_number_of to n)
+pub cast_value_law : (op : CastOp) (nneg : Bool) (from to : Scalar) (a : Option ℕ) (n : ℕ) → IsInteger to → (op ≡ Zext → width from < width to) → IfSome a (λ m. IsTrue (is_number_of from m)) → cast_of_value op nneg from to a ≡ Num n → IsTrue (is_number_of to n)
 cast_value_law op nneg from to a n i goes h e = given to _ n (cast_value_is op nneg from to a i goes h) e
 
 pub icmp_law : (pred : Pred) (ty : Scalar) (a b : Option ℕ) (n : ℕ) → icmp_of_values pred ty a b ≡ Num n → IsTrue (is_number_of I1 n)

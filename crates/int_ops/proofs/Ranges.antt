@@ -1,5 +1,5 @@
 -- Results against the ranges of the types, and against what 64 bits hold.
-use Rattle.std.proofs.Common.{◌≡◌, ℕ, ◌+◌, ◌-◌, ◌*◌, ◌^◌, ◌%◌, ◌<◌, ◌≤◌, Bool, true, false, ℤ, pos, negsuc, ◌+ℤ◌, ◌-ℤ◌, ◌*ℤ◌, ◌&&◌, refl, sym, ap, ap₂, ◌∙◌, subst, arith, FitsSigned, w64, to_z, of_z, SomeIff, IfSome, IfNone, Option, Some, None, ⊎_elim}
+use Rattle.std.proofs.Common.{◌≡◌, ℕ, ◌+◌, ◌-◌, ◌^◌, ◌%◌, ◌<◌, ◌≤◌, Bool, true, false, ℤ, pos, negsuc, ◌-ℤ◌, ◌&&◌, refl, sym, ap, ap₂, ◌∙◌, arith, FitsSigned, w64, to_z, of_z, SomeIff, IfSome, IfNone, Option, Some, None, ⊎_elim}
 use Rattle.std.proofs.lemmas.Int.{ints, to_z-of_z}
 use Rattle.std.proofs.lemmas.Bool.{cases_lt}
 use Rattle.ir_types.specs.declared.scalar.Scalar.{Scalar}
@@ -80,9 +80,9 @@ modulo_of_difference_below Ptr a b f h = omega arith
 
 pub modulo_of_wrapped_difference : (ty : Scalar) (a b : ℕ) → b < 2 ^ 64 → number_modulo ty ((a + (2 ^ 64 - b)) % 2 ^ 64) ≡ integer_modulo ty (pos a -ℤ pos b)
 modulo_of_wrapped_difference ty a b f = ⊎_elim
-  (λ h. modulo_of_word ty (a + (2 ^ 64 - b)) ∙ modulo_of_difference_below ty a b f h ∙ ap (integer_modulo ty) (sym (difference_below a b h)))
-  (λ h. modulo_of_word ty (a + (2 ^ 64 - b)) ∙ modulo_of_difference ty a b f h ∙ ap (integer_modulo ty) (sym (difference a b h)))
-  (cases_lt a b)
+    (λ h. modulo_of_word ty (a + (2 ^ 64 - b)) ∙ modulo_of_difference_below ty a b f h ∙ ap (integer_modulo ty) (sym (difference_below a b h)))
+    (λ h. modulo_of_word ty (a + (2 ^ 64 - b)) ∙ modulo_of_difference ty a b f h ∙ ap (integer_modulo ty) (sym (difference a b h)))
+    (cases_lt a b)
 
 -- the range of a difference
 pub difference_from : (ty : Scalar) (o : Option ℕ) (r : Bool) (a b : ℕ) → SomeIff o (b ≤ a) (a - b) → IfSome o (λ m. r ≡ is_number_of ty m) → IfNone o (r ≡ false) → r ≡ is_unsigned ty (pos a -ℤ pos b)
@@ -92,5 +92,5 @@ difference_from ty (Some m) r a b iff some none = some ∙ ap (is_number_of ty) 
 -- ---- the three together
 
 pub wrapped_as : (flags : Flags) {u v s t : Bool} {m n : ℕ} → u ≡ v → s ≡ t → m ≡ n
-  → poison_unless (implies flags.nuw u && implies flags.nsw s) m ≡ poison_unless (implies flags.nuw v && implies flags.nsw t) n
+    → poison_unless (implies flags.nuw u && implies flags.nsw s) m ≡ poison_unless (implies flags.nuw v && implies flags.nsw t) n
 wrapped_as flags {u} {v} {s} {t} {m} {n} e f g = ap₂ (λ (x : Bool) (k : ℕ). poison_unless x k) (ap₂ (λ (x y : Bool). implies flags.nuw x && implies flags.nsw y) e f) g

@@ -1,5 +1,5 @@
 -- What the code's `==` and `>>` at 64 bits say of signed values.
-use Rattle.std.proofs.Common.{◌≡◌, ℕ, ◌^◌, ◌<◌, ◌≤◌, ℤ, Bool, int_eq, eqb, refl, sym, ap, ap₂, ◌∙◌, arith, FitsSigned, w64, to_z, of_z}
+use Rattle.std.proofs.Common.{◌≡◌, ℕ, ◌^◌, ℤ, int_eq, eqb, sym, ap, ap₂, ◌∙◌, arith, FitsSigned, w64, to_z, of_z}
 use Rattle.std.specs.Int.{int_shr}
 use Rattle.std.specs.Int.Signed.{mag_shr}
 use Rattle.std.specs.Bool.{one_answer}
@@ -18,8 +18,8 @@ shifted_fits x k f = record { sfits = omega (arith, mag_shr x (2 ^ k), f.sfits) 
 
 -- whether a value that is shifted back is the operand
 pub comes_back_as : (x y s t : ℤ) (k : ℕ) → FitsSigned w64 x → FitsSigned w64 y → x ≡ s → y ≡ t
-  → eqb (of_z w64 (int_shr (to_z w64 (of_z w64 x)) k)) (of_z w64 y) ≡ int_eq (int_shr s k) t
+    → eqb (of_z w64 (int_shr (to_z w64 (of_z w64 x)) k)) (of_z w64 y) ≡ int_eq (int_shr s k) t
 comes_back_as x y s t k f g e d =
-  ap (λ (z : ℤ). eqb (of_z w64 (int_shr z k)) (of_z w64 y)) (to_z-of_z w64 x f)
-  ∙ equal_as_bits (int_shr x k) y (shifted_fits x k f) g
-  ∙ ap₂ (λ (z u : ℤ). int_eq (int_shr z k) u) e d
+    ap (λ (z : ℤ). eqb (of_z w64 (int_shr z k)) (of_z w64 y)) (to_z-of_z w64 x f)
+    ∙ equal_as_bits (int_shr x k) y (shifted_fits x k f) g
+    ∙ ap₂ (λ (z u : ℤ). int_eq (int_shr z k) u) e d

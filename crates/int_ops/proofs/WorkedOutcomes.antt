@@ -1,9 +1,9 @@
 -- Operations worked by hand.
-use Rattle.std.proofs.Common.{◌≡◌, ℕ, ◌^◌, ◌-◌, Bool, true, false, refl, Some, None}
+use Rattle.std.proofs.Common.{◌≡◌, ◌^◌, ◌-◌, true, false, refl, Some, None}
 use Rattle.ir_types.specs.declared.scalar.Flags.{Flags}
 use Rattle.ir_types.specs.declared.scalar.Scalar.TheVariants.{I1, I8, I16, I32, I64}
-use Rattle.ir_types.specs.declared.scalar.BinOp.TheVariants.{Add, Sub, Mul, Udiv, Sdiv, Urem, Srem, Shl, Lshr, Ashr, And, Or, Xor}
-use Rattle.ir_types.specs.declared.scalar.Pred.TheVariants.{Ugt, Sgt, Sle}
+use Rattle.ir_types.specs.declared.scalar.BinOp.TheVariants.{Add, Sub, Mul, Udiv, Sdiv, Urem, Srem, Shl, Lshr, Ashr, Or}
+use Rattle.ir_types.specs.declared.scalar.Pred.TheVariants.{Ugt, Sgt}
 use Rattle.ir_types.specs.declared.scalar.CastOp.TheVariants.{Zext, Sext, Trunc}
 use Rattle.int_ops.specs.declared.cause.Cause.TheVariants.{DivideByZero, DivideOverflow}
 use Rattle.int_ops.specs.declared.outcome.Outcome.TheVariants.{Num, Poison, Undefined}

@@ -1,18 +1,12 @@
 -- Casts between integers (LLVM Language Reference Manual, 'zext .. to' Instruction, 'sext .. to' Instruction, 'trunc .. to' Instruction).
-use Rattle.std.specs.Prelude.{ℕ, Bool, ◌<◌, pos, int_le}
+use Rattle.std.specs.Prelude.{ℕ, Bool, pos, int_le}
 use Rattle.ir_types.specs.declared.scalar.Scalar.{Scalar}
 use Rattle.ir_types.specs.declared.scalar.CastOp.{CastOp}
 use Rattle.ir_types.specs.declared.scalar.CastOp.TheVariants.{Zext, Sext, Trunc}
-use Rattle.ir_types.specs.Scalars.{width, number_modulo, signed_value, integer_modulo}
+use Rattle.ir_types.specs.Scalars.{number_modulo, signed_value, integer_modulo}
 use Rattle.int_ops.specs.declared.outcome.Outcome.{Outcome}
 use Rattle.int_ops.specs.declared.outcome.Outcome.TheVariants.{Num}
 use Rattle.int_ops.specs.Outcomes.{implies, poison_unless}
-
--- An extension goes to a wider integer, and a truncation to a narrower one.
-abbrev pub GoesTo : CastOp → Scalar → Scalar → Type 0
-GoesTo Zext from to = width from < width to
-GoesTo Sext from to = width from < width to
-GoesTo Trunc from to = width to < width from
 
 -- An extension keeps the number, or the signed value, and a truncation the lowest bits. With `nneg` the operand isn't negative.
 unfoldable pub cast_outcome : CastOp → Bool → Scalar → Scalar → ℕ → Outcome

@@ -2,11 +2,11 @@
 ghost use Rattle.std.specs.Prelude.{◌≡◌};
 ghost use Rattle.int_ops.specs.Binary.{bin_outcome};
 
+use crate::Outcome;
 use crate::bitwise::or;
 use crate::divisions::{sdiv, srem, udiv, urem};
 use crate::shifts::{ashr, lshr, shl};
 use crate::sums::{add, mul, sub};
-use crate::Outcome;
 use ir_types::{BinOp, Flags, Scalar};
 
 /// What an operation gives of two numbers of an integer type (LLVM Language Reference Manual, 'Binary Operations' and
