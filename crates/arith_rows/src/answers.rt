@@ -4,9 +4,26 @@ use int_ops::{Outcome, bin, cast, icmp};
 use ir_types::{BinOp, CastOp, Flags, Pred, Scalar};
 
 pub enum Row {
-    Operation { op: BinOp, flags: Flags, ty: Scalar, a: u64, b: u64 },
-    Comparison { pred: Pred, ty: Scalar, a: u64, b: u64 },
-    Cast { op: CastOp, nneg: bool, from: Scalar, to: Scalar, a: u64 },
+    Operation {
+        op: BinOp,
+        flags: Flags,
+        ty: Scalar,
+        a: u64,
+        b: u64,
+    },
+    Comparison {
+        pred: Pred,
+        ty: Scalar,
+        a: u64,
+        b: u64,
+    },
+    Cast {
+        op: CastOp,
+        nneg: bool,
+        from: Scalar,
+        to: Scalar,
+        a: u64,
+    },
 }
 
 pub enum Answer {
@@ -47,10 +64,22 @@ pub fn row_of(line: &str) -> Option<Row> {
     }
 }
 
-pub fn answer(row: Row) -> Answer {
+pub fn answered(row: Row) -> Answer {
     match row {
-        Row::Operation { op, flags, ty, a, b } => Answer::Gives(bin(op, flags, ty, a, b)),
+        Row::Operation {
+            op,
+            flags,
+            ty,
+            a,
+            b,
+        } => Answer::Gives(bin(op, flags, ty, a, b)),
         Row::Comparison { pred, ty, a, b } => Answer::Holds(icmp(pred, ty, a, b)),
-        Row::Cast { op, nneg, from, to, a } => Answer::Gives(cast(op, nneg, from, to, a)),
+        Row::Cast {
+            op,
+            nneg,
+            from,
+            to,
+            a,
+        } => Answer::Gives(cast(op, nneg, from, to, a)),
     }
 }

@@ -6,7 +6,7 @@
 mod answers;
 mod words;
 
-use crate::answers::{Answer, Row, answer, row_of};
+use crate::answers::{Answer, answered, row_of};
 use int_ops::Outcome;
 use std::process::ExitCode;
 use std::rt::{Env, Files};
@@ -31,7 +31,7 @@ fn run<R: Env + Files + Print + AllocGlobal>(rt: &R) -> anyhow::Result<()> {
 
 fn print_row<R: Print>(rt: &R, line: &str) -> io::Result<()> {
     match row_of(line) {
-        Some(row) => match answer(row) {
+        Some(row) => match answered(row) {
             Answer::Holds(holds) => println!(rt; "{line}: {holds}"),
             Answer::Gives(Outcome::Num(number)) => println!(rt; "{line}: {number}"),
             Answer::Gives(Outcome::Poison) => println!(rt; "{line}: poison"),
