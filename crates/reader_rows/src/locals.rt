@@ -1,9 +1,9 @@
 //! Rows of `ir_locals`.
 use crate::row::{bytes_of, no_row, number_of, said};
 use ir_grammar::{Lexeme, Shape};
-use ir_locals::{Locals, decimal_name, is_decimal, is_name};
+use ir_locals::{Locals, decimal_name, is_decimal};
 use ir_syntax::Operand;
-use ir_types::{BinOp, Bytes, OutOfMemory, Scalar};
+use ir_types::{BinOp, Bytes, OutOfMemory, Scalar, is_name};
 use std::alloc::Global;
 
 /// What is found for a row.
