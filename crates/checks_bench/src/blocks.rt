@@ -1,6 +1,4 @@
 //! What the bodies are built of.
-ghost use Rattle.std.specs.Prelude.{IfOk};
-ghost use Rattle.ir_check.specs.Nests.{InstNests, BlockNests};
 
 use ir_syntax::{Block, Const, Inst, Operand, Phi, Term};
 use ir_types::{BinOp, Flags, OutOfMemory, Scalar};
@@ -32,9 +30,7 @@ pub fn before(register: usize) -> Operand {
 }
 
 /// An addition of `i32`.
-pub fn sum(a: Operand, b: Operand) -> Inst
-    ensures { InstNests result }
-{
+pub fn sum(a: Operand, b: Operand) -> Inst {
     Inst::Bin {
         op: BinOp::Add,
         flags: Flags {
@@ -50,9 +46,7 @@ pub fn sum(a: Operand, b: Operand) -> Inst
 }
 
 /// A block of one addition.
-pub fn adding(alloc: Global, a: Operand, b: Operand, term: Term) -> Result<Block, OutOfMemory>
-    ensures { IfOk result BlockNests }
-{
+pub fn adding(alloc: Global, a: Operand, b: Operand, term: Term) -> Result<Block, OutOfMemory> {
     let mut insts = List::new(alloc);
     insts.push(sum(a, b))?;
     Ok(Block {
@@ -63,9 +57,7 @@ pub fn adding(alloc: Global, a: Operand, b: Operand, term: Term) -> Result<Block
 }
 
 /// A block of phis alone.
-pub fn joining(alloc: Global, phis: List<Phi>, term: Term) -> Block
-    ensures { BlockNests result }
-{
+pub fn joining(alloc: Global, phis: List<Phi>, term: Term) -> Block {
     Block {
         phis,
         insts: List::new(alloc),

@@ -1,7 +1,4 @@
 //! The bodies of each shape. They are of a function with a parameter of `i1` and one of `i32`, which returns an `i32`.
-ghost use Rattle.std.specs.Prelude.{IfOk};
-ghost use Rattle.std.specs.List.{All};
-ghost use Rattle.ir_check.specs.Nests.{InstNests, BlockNests};
 
 use crate::blocks::{adding, before, condition, given, joining, number, sum};
 use crate::shape::Shape;
@@ -11,9 +8,7 @@ use sqlite_items::Items as List;
 use std::alloc::Global;
 
 /// The blocks of a body of this shape and size. `OutOfMemory` comes where memory is refused.
-pub fn blocks_of(alloc: Global, shape: Shape, size: u32) -> Result<List<Block>, OutOfMemory>
-    ensures { IfOk result (λ blocks. All BlockNests blocks) }
-{
+pub fn blocks_of(alloc: Global, shape: Shape, size: u32) -> Result<List<Block>, OutOfMemory> {
     match shape {
         Shape::Chain => chain(alloc, size),
         Shape::Ladder => ladder(alloc, size),
@@ -23,9 +18,7 @@ pub fn blocks_of(alloc: Global, shape: Shape, size: u32) -> Result<List<Block>, 
 }
 
 /// So many blocks. Each adds 1 to the register of the one before and goes to the next; the last returns its register.
-fn chain(alloc: Global, size: u32) -> Result<List<Block>, OutOfMemory>
-    ensures { IfOk result (λ blocks. All BlockNests blocks) }
-{
+fn chain(alloc: Global, size: u32) -> Result<List<Block>, OutOfMemory> {
     let size = size as usize;
     let mut blocks = List::new(alloc);
     for at in 0..size {
@@ -40,9 +33,7 @@ fn chain(alloc: Global, size: u32) -> Result<List<Block>, OutOfMemory>
 }
 
 /// So many joins. Before each a branch goes to two blocks, which add 1 and 2 to the register of the join before.
-fn ladder(alloc: Global, size: u32) -> Result<List<Block>, OutOfMemory>
-    ensures { IfOk result (λ blocks. All BlockNests blocks) }
-{
+fn ladder(alloc: Global, size: u32) -> Result<List<Block>, OutOfMemory> {
     let mut blocks = List::new(alloc);
     for step in 0..size {
         let at = 3 * step as usize;
@@ -73,9 +64,7 @@ fn phis_at(alloc: Global, at: usize) -> Result<List<Phi>, OutOfMemory> {
 }
 
 /// One block of so many additions, each of the register before and a parameter. It returns the last register.
-fn line(alloc: Global, size: u32) -> Result<List<Block>, OutOfMemory>
-    ensures { IfOk result (λ blocks. All BlockNests blocks) }
-{
+fn line(alloc: Global, size: u32) -> Result<List<Block>, OutOfMemory> {
     let size = size as usize;
     let insts = additions(alloc, size)?;
     let mut blocks = List::new(alloc);
@@ -87,9 +76,7 @@ fn line(alloc: Global, size: u32) -> Result<List<Block>, OutOfMemory>
     Ok(blocks)
 }
 
-fn additions(alloc: Global, size: usize) -> Result<List<Inst>, OutOfMemory>
-    ensures { IfOk result (λ insts. All InstNests insts) }
-{
+fn additions(alloc: Global, size: usize) -> Result<List<Inst>, OutOfMemory> {
     let mut insts = List::new(alloc);
     for at in 0..size {
         insts.push(sum(before(at), given()))?;
@@ -99,9 +86,7 @@ fn additions(alloc: Global, size: usize) -> Result<List<Inst>, OutOfMemory>
 
 /// A switch of two cases fewer than the size, and the block that each of its edges goes to, which has a phi with an
 /// entry for each edge.
-fn switch(alloc: Global, size: u32) -> Result<List<Block>, OutOfMemory>
-    ensures { IfOk result (λ blocks. All BlockNests blocks) }
-{
+fn switch(alloc: Global, size: u32) -> Result<List<Block>, OutOfMemory> {
     let count = size.saturating_sub(2);
     let term = Term::Switch {
         ty: Scalar::I32,

@@ -1,7 +1,4 @@
 //! What the two checks say of a function.
-ghost use Rattle.std.specs.Prelude.{IfOk};
-ghost use Rattle.std.specs.List.{All};
-ghost use Rattle.ir_check.specs.Nests.{BlockNests, ItemNests};
 
 use crate::bodies::blocks_of;
 use crate::refusal::Refusal;
@@ -60,10 +57,7 @@ fn is_definite(alloc: Global, items: &[Item]) -> Result<bool, OutOfMemory> {
 }
 
 /// A module's items: the one function `i32 @f(i1, i32)` with these blocks.
-fn items_of(alloc: Global, blocks: List<Block>) -> Result<List<Item>, OutOfMemory>
-    requires { All BlockNests blocks }
-    ensures { IfOk result (λ items. All ItemNests items) }
-{
+fn items_of(alloc: Global, blocks: List<Block>) -> Result<List<Item>, OutOfMemory> {
     let types = [Scalar::I1, Scalar::I32];
     let func = Func {
         name: Bytes::from_slice(alloc, b"f".as_slice())?,

@@ -1,5 +1,6 @@
 //! Runs the two checks of modules over one function of a given shape and size, so that their time and memory can be
-//! measured: `checks_bench SHAPE SIZE` prints one line, `SHAPE SIZE typed definite` for the functions that it builds.
+//! measured: `checks_bench SHAPE SIZE ..` prints a line for each shape with its size, `SHAPE SIZE typed definite` for the
+//! functions that it builds.
 #![tactic(auto)]
 
 mod blocks;
@@ -7,13 +8,12 @@ mod bodies;
 mod checks;
 mod refusal;
 mod shape;
-#[cfg(test)]
-mod tests;
 mod words;
 
 use crate::checks::{Report, checked};
 use crate::refusal::Refusal;
-use crate::words::asked;
+use crate::words::{asked, words_of};
+use std::alloc::Global;
 use std::io;
 use std::process::ExitCode;
 use std::rt::Env;
@@ -25,9 +25,30 @@ fn main(rt: HostRuntime) -> ExitCode {
     }
 }
 
-// The line is printed, and what is returned is the exit status.
+// A line is printed for each shape and size, and what is returned is the exit status of the last refusal.
 fn run<R: Env + Print + AllocGlobal>(rt: &R) -> io::Result<u8> {
-    match answer(rt) {
+    let words = words_of(rt)?;
+    if words.is_empty() {
+        return print_answer(rt, Err(Refusal::Usage));
+    }
+    let mut status = 0;
+    for pair in words.chunks(2) {
+        match print_answer(rt, answer(rt.alloc(), pair))? {
+            0 => {}
+            refused => status = refused,
+        }
+    }
+    Ok(status)
+}
+
+fn answer(alloc: Global, pair: &[String]) -> Result<Report, Refusal> {
+    let (shape, size) = asked(pair)?;
+    checked(alloc, shape, size)
+}
+
+// Prints the line, and gives the status that stands for the answer.
+fn print_answer<R: Print>(rt: &R, answer: Result<Report, Refusal>) -> io::Result<u8> {
+    match answer {
         Ok(report) => {
             println!(rt; "{report}")?;
             Ok(0)
@@ -37,9 +58,4 @@ fn run<R: Env + Print + AllocGlobal>(rt: &R) -> io::Result<u8> {
             Ok(refusal.status())
         }
     }
-}
-
-fn answer<R: Env + AllocGlobal>(rt: &R) -> Result<Report, Refusal> {
-    let (shape, size) = asked(rt)?;
-    checked(rt.alloc(), shape, size)
 }

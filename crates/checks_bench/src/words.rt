@@ -7,23 +7,8 @@ use std::{env, io};
 // The greatest size.
 const LARGEST: u32 = 1_000_000;
 
-/// The shape and the size that the words after the program's name ask for. The size is from 1 to 1,000,000, in
-/// decimal digits, before which a `+` may stand.
-///
-/// `Usage` comes for any other words, and `OutOfMemory` where memory is refused.
-pub fn asked<R: Env + AllocGlobal>(rt: &R) -> Result<(Shape, u32), Refusal> {
-    match words_of(rt) {
-        Ok(words) => read(words.as_slice()),
-        Err(e) => if e.kind() == io::ErrorKind::OutOfMemory {
-            Err(Refusal::OutOfMemory)
-        } else {
-            Err(Refusal::Usage)
-        },
-    }
-}
-
-// The words after the program's name.
-fn words_of<R: Env + AllocGlobal>(rt: &R) -> io::Result<Vec<String>> {
+/// The words after the program's name.
+pub fn words_of<R: Env + AllocGlobal>(rt: &R) -> io::Result<Vec<String>> {
     let mut words = Vec::new(rt.alloc());
     for (place, word) in env::args(rt)?.enumerate() {
         if place > 0 {
@@ -33,7 +18,9 @@ fn words_of<R: Env + AllocGlobal>(rt: &R) -> io::Result<Vec<String>> {
     Ok(words)
 }
 
-fn read(words: &[String]) -> Result<(Shape, u32), Refusal> {
+/// The shape and the size that two words ask for. The size is from 1 to 1,000,000, in decimal digits, before which a
+/// `+` may stand. `Usage` comes for any other words.
+pub fn asked(words: &[String]) -> Result<(Shape, u32), Refusal> {
     match words {
         [shape, size] => match (Shape::named(shape.as_str()), size_of(size.as_str())) {
             (Some(shape), Some(size)) => Ok((shape, size)),

@@ -3,8 +3,6 @@
 
 mod expand;
 mod row;
-#[cfg(test)]
-mod tests;
 
 pub use expand::Expand;
 pub use row::Row;

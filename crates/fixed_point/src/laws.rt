@@ -1,11 +1,11 @@
 //! What holds of needed rows, whatever expands them. These functions do nothing: what they ensure is the law.
-ghost use Rattle.std.specs.Prelude.{◌≡◌, ◌<◌, ◌≤◌, ◌↔◌, ℕ, Bool, true, List, length, sum_by, bytes_eq};
+ghost use Rattle.std.specs.Prelude.{◌≡◌, ◌≢◌, ◌≤◌, ◌↔◌, ℕ, Bool, true, List, All, AllPairs, Contains, length, sum_by, bytes_eq};
 ghost use Rattle.std.specs.List.{list_any};
 ghost use Rattle.std.specs.Ordering.{nat_cmp};
 ghost use Rattle.std.specs.Cmp.Lexicographic.{slice_cmp};
-ghost use Rattle.std.specs.List.Sorted.{IsStrictlySortedBy};
+ghost use Rattle.std.specs.List.Sorted.{IsPermutation, IsStrictlySortedBy};
 ghost use Rattle.demand_core.specs.Needed.{IsNeeded};
-ghost use Rattle.fixed_point.specs.Needs.{IsLeast, AreNeeded, AreAllNeeded, NeedsMoreThan, WeighsMoreThan};
+ghost use Rattle.fixed_point.specs.Needs.{IsLeast, AreAllNeeded, NeedsMoreThan, WeighsMoreThan};
 
 /// There is one least set, and a row is in it just where it is needed. Where the needed rows are listed, it is the set of
 /// the listed rows.
@@ -23,6 +23,20 @@ pub fn rows_are_one()
     ensures { (needs : List ℕ → List (List ℕ)) (roots rows others : List (List ℕ))
         → AreAllNeeded needs roots rows → AreAllNeeded needs roots others
         → IsStrictlySortedBy (slice_cmp nat_cmp) rows → IsStrictlySortedBy (slice_cmp nat_cmp) others → rows ≡ others }
+{}
+
+/// All needed rows are so in another order too.
+pub fn rows_are_needed_in_any_order()
+    ensures { (needs : List ℕ → List (List ℕ)) (roots rows others : List (List ℕ))
+        → IsPermutation rows others → AreAllNeeded needs roots rows → AreAllNeeded needs roots others }
+{}
+
+/// Where distinct things all stand in a list, the list has at least as many, and the sizes of what stands in it add to at
+/// least theirs.
+pub fn part_is_no_larger<X>()
+    ensures length { (xs ys : List X) → AllPairs (λ x y. x ≢ y) xs → All (Contains ys) xs → length xs ≤ length ys }
+    ensures sizes { (size : X → ℕ) (xs ys : List X) → AllPairs (λ x y. x ≢ y) xs → All (Contains ys) xs
+        → sum_by size xs ≤ sum_by size ys }
 {}
 
 /// Where a list of the needed rows is within a limit, none shows that they are past it.

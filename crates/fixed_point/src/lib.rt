@@ -5,12 +5,12 @@ mod demands;
 mod fault;
 mod laws;
 mod search;
-#[cfg(test)]
-mod tests;
 
 pub use demands::least;
 pub use fault::FixFault;
-pub use laws::{least_set_is_one, limits_exclude, rows_are_one};
+pub use laws::{
+    least_set_is_one, limits_exclude, part_is_no_larger, rows_are_needed_in_any_order, rows_are_one,
+};
 
 // The most rows that may be needed.
 const MOST_DEMANDS: usize = 65_536;

@@ -1,6 +1,5 @@
 pub mod IllTyped
 pub mod Incoming
-pub mod Nests
 pub mod Scopes
 pub mod Suited
 pub mod Walks

@@ -3,7 +3,6 @@ ghost use Rattle.std.specs.Prelude.{◌≡◌, ◌↔◌, ◌<◌, IsTrue, IfOk,
 ghost use Rattle.std.specs.List.{All};
 ghost use Rattle.ir_syntax.specs.Typed.{TypedBody};
 ghost use Rattle.ir_check.specs.Incoming.{AreIncoming};
-ghost use Rattle.ir_check.specs.Nests.{BlockNests};
 ghost use Rattle.ir_check.specs.Scopes.{types_of};
 ghost use Rattle.ir_check.specs.Suited.{SuitsBlock, AreTypedBlocks};
 
@@ -27,7 +26,6 @@ fn suits_block(
     from: &[usize],
     block: &Block,
 ) -> Result<bool, OutOfMemory>
-    requires nests { BlockNests block.now }
     requires none { All (λ n. n ≡ 0) counts.old }
     requires there { All (λ pred. pred < length counts.old) from.now }
     requires as_many { length firsts.old ≡ length counts.old }
@@ -52,7 +50,6 @@ fn are_typed_blocks(
     incoming: &Incoming,
     blocks: &[Block],
 ) -> Result<bool, OutOfMemory>
-    requires nests { All BlockNests blocks.now }
     requires incoming { AreIncoming blocks.now incoming.now }
     requires none { All (λ n. n ≡ 0) counts.old }
     requires counts { length counts.old ≡ length blocks.now }
@@ -76,7 +73,6 @@ pub fn is_typed_body(
     returns: Option<Scalar>,
     blocks: &[Block],
 ) -> Result<bool, OutOfMemory>
-    requires { All BlockNests blocks.now }
     ensures { IfOk result (λ typed. IsTrue typed ↔ TypedBody (types_of scope.now) returns blocks.now) }
 {
     let incoming = incoming_of(alloc, blocks)?;

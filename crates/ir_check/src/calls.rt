@@ -1,68 +1,23 @@
-//! Types of functions, and calls.
+//! Calls.
 ghost use Rattle.std.specs.Prelude.{◌≡◌, ◌↔◌, IsTrue, Some, map, take, length, slice_get};
-ghost use Rattle.ir_syntax.specs.Typed.{type_of, function_type, written_callee, CalleeSuits, TypedCall};
+ghost use Rattle.ir_syntax.specs.Typed.{CalleeSuits, TypedCall};
+ghost use Rattle.ir_syntax.specs.Callees.{written_callee};
+ghost use Rattle.ir_syntax.specs.FunctionTypes.{function_type};
 ghost use Rattle.ir_check.specs.Scopes.{types_of};
 
 use crate::operands::{has_type, have_types, same_scalar};
 use crate::scope::Scope;
-use ir_syntax::{Arg, Const, Func, Item, Operand, Param};
+use ir_syntax::{Arg, Item, Operand};
 use ir_types::{FnType, Scalar};
-
-/// Whether the results of two functions have one type.
-pub fn same_return(a: Option<Scalar>, b: Option<Scalar>) -> bool
-    ensures { IsTrue result ↔ (a ≡ b) }
-{
-    match a {
-        Some(x) => match b {
-            Some(y) => same_scalar(x, y),
-            None => false,
-        },
-        None => b.is_none(),
-    }
-}
-
-/// Whether the parameters have these types.
-fn have_params(params: &[Param], types: &[Scalar]) -> bool
-    ensures { IsTrue result ↔ (map (λ param. param.ty) params.now ≡ types.now) }
-{
-    if params.len() != types.len() {
-        return false;
-    }
-    for (i, param) in params.iter().enumerate() {
-        if !same_scalar(param.ty, types[i]) {
-            return false;
-        }
-    }
-    true
-}
-
-/// Whether the function has this type.
-pub fn is_of_type(func: &Func, fn_ty: &FnType) -> bool
-    ensures { IsTrue result ↔ (type_of func.now ≡ fn_ty.now) }
-{
-    have_params(func.params.as_slice(), fn_ty.params.as_slice())
-        && func.variadic == fn_ty.variadic
-        && same_return(func.returns, fn_ty.returns)
-}
 
 /// Whether the item at a place is a function of this type.
 fn is_function(items: &[Item], place: usize, fn_ty: &FnType) -> bool
     ensures { IsTrue result ↔ (function_type (slice_get items.now place) ≡ Some fn_ty.now) }
 {
     match items.get(place) {
-        Some(Item::Func(func)) => is_of_type(func, fn_ty),
+        Some(Item::Func(func)) => func.has_type(fn_ty),
         Some(Item::Var(_)) => false,
         None => false,
-    }
-}
-
-/// The place of the item whose name is written as the callee.
-fn written_callee(callee: &Operand) -> Option<usize>
-    ensures { result ≡ written_callee callee.now }
-{
-    match callee {
-        Operand::Const(Const::Addr(place, 0)) => Some(*place),
-        _ => None,
     }
 }
 
@@ -70,7 +25,7 @@ fn written_callee(callee: &Operand) -> Option<usize>
 fn callee_suits(scope: &Scope, fn_ty: &FnType, callee: &Operand) -> bool
     ensures { IsTrue result ↔ CalleeSuits (types_of scope.now) fn_ty.now callee.now (written_callee callee.now) }
 {
-    match written_callee(callee) {
+    match callee.written_callee() {
         Some(place) => is_function(scope.items, place, fn_ty),
         None => has_type(scope, Scalar::Ptr, callee),
     }

@@ -1,14 +1,12 @@
 //! Types of instructions.
 ghost use Rattle.std.specs.Prelude.{◌≡◌, ◌↔◌, ◌<◌, ◌*◌, ◌^◌, IsTrue};
 ghost use Rattle.std.specs.List.{All};
-ghost use Rattle.ir_types.specs.Nesting.{IsWithinNesting};
 ghost use Rattle.ir_types.specs.Layout.{size};
 ghost use Rattle.ir_syntax.specs.Typed.{IsNarrow, HasType, TypedInst};
 ghost use Rattle.ir_check.specs.Scopes.{types_of};
-ghost use Rattle.ir_check.specs.Nests.{InstNests};
 
 use crate::calls::is_typed_call;
-use crate::operands::{has_type, has_widths, is_integer};
+use crate::operands::{has_type, has_widths};
 use crate::scope::Scope;
 use crate::walks::is_walk;
 use ir_syntax::{Inst, Operand};
@@ -19,7 +17,6 @@ const LIMIT: u64 = 2147483648;
 
 /// Whether the type and each of its parts has a size below 2^31.
 pub fn is_narrow(ty: &Ty) -> bool
-    requires { IsWithinNesting ty.now }
     ensures { IsTrue result ↔ IsNarrow ty.now }
 {
     size_of(ty).is_ok()
@@ -27,7 +24,6 @@ pub fn is_narrow(ty: &Ty) -> bool
 
 /// Whether so many values of a type take less than 2^31 bytes together, and the type is narrow.
 fn is_small(ty: &Ty, count: u64) -> bool
-    requires { IsWithinNesting ty.now }
     ensures { IsTrue result ↔ (IsNarrow ty.now × (size ty.now * count < 2 ^ 31)) }
 {
     match size_of(ty) {
@@ -50,12 +46,11 @@ fn have_index_types(scope: &Scope, indices: &[(Scalar, Operand)]) -> bool
 
 /// Whether the instruction is well typed.
 pub fn is_typed_inst(scope: &Scope, inst: &Inst) -> bool
-    requires { InstNests inst.now }
     ensures { IsTrue result ↔ TypedInst (types_of scope.now) inst.now }
 {
     match inst {
         Inst::Bin { ty, a, b, .. } => {
-            is_integer(*ty) && has_type(scope, *ty, a) && has_type(scope, *ty, b)
+            ty.is_integer() && has_type(scope, *ty, a) && has_type(scope, *ty, b)
         }
         Inst::Icmp { ty, a, b, .. } => has_type(scope, *ty, a) && has_type(scope, *ty, b),
         Inst::Select { ty, cond, a, b } => {
@@ -68,8 +63,8 @@ pub fn is_typed_inst(scope: &Scope, inst: &Inst) -> bool
             a,
             ..
         } => {
-            is_integer(*from)
-                && is_integer(*to)
+            from.is_integer()
+                && to.is_integer()
                 && has_widths(*op, *from, *to)
                 && has_type(scope, *from, a)
         }
@@ -100,7 +95,6 @@ pub fn is_typed_inst(scope: &Scope, inst: &Inst) -> bool
 
 /// Whether each instruction is well typed.
 pub fn are_typed_insts(scope: &Scope, insts: &[Inst]) -> bool
-    requires { All InstNests insts.now }
     ensures { IsTrue result ↔ All (TypedInst (types_of scope.now)) insts.now }
 {
     for inst in insts {

@@ -21,7 +21,6 @@ ghost use Rattle.std.specs.List.{All};
 ghost use Rattle.ir_syntax.specs.Formed.{Formed};
 ghost use Rattle.ir_syntax.specs.Typed.{TypedItem, Typed};
 ghost use Rattle.ir_check.specs.IllTyped.{IsFirstIllTyped, IsCause};
-ghost use Rattle.ir_check.specs.Nests.{ItemNests};
 
 use crate::items::is_typed_item;
 pub use fault::TypeFault;
@@ -29,10 +28,8 @@ use ir_syntax::{Item, Module};
 use ir_types::OutOfMemory;
 use std::alloc::Global;
 
-/// The place of the first item that isn't well typed among these, and `None` where each is. Types in the items nest at
-/// most 64 deep. `OutOfMemory` says that the allocator refused memory.
+/// The place of the first item that isn't well typed among these, and `None` where each is. `OutOfMemory` says that the allocator refused memory.
 pub fn first_ill_typed(alloc: Global, items: &[Item]) -> Result<Option<usize>, OutOfMemory>
-    requires { All ItemNests items.now }
     ensures { IfOk result (λ found. MatchOption found (All (TypedItem items.now) items.now) (IsFirstIllTyped items.now)) }
 {
     for (at, item) in items.iter().enumerate() {
@@ -61,5 +58,3 @@ pub fn check_types(alloc: Global, m: &Module) -> Result<(), TypeFault>
     }
 }
 
-#[cfg(test)]
-mod tests;

@@ -1,26 +1,17 @@
 //! Whether constants name intrinsics.
 ghost use Rattle.std.specs.Prelude.{◌≡◌, ◌↔◌, IsTrue, slice_get};
-ghost use Rattle.ir_syntax.specs.FormedBody.{is_intrinsic, is_intrinsic_item};
+ghost use Rattle.ir_syntax.specs.FormedBody.{is_intrinsic_item};
 ghost use Rattle.ir_syntax.specs.Typed.{NamesNoIntrinsic};
 
-use ir_syntax::{Const, Item};
-
-/// Whether the name is that of an intrinsic.
-pub fn is_intrinsic(name: &[u8]) -> bool
-    ensures { result ≡ is_intrinsic name.now }
-{
-    name == b"llvm.memcpy.p0.p0.i64".as_slice()
-        || name == b"llvm.memmove.p0.p0.i64".as_slice()
-        || name == b"llvm.memset.p0.i64".as_slice()
-}
+use ir_syntax::{Const, Intrinsic, Item};
 
 /// Whether the item at a place is an intrinsic.
 fn is_intrinsic_at(items: &[Item], place: usize) -> bool
     ensures { result ≡ is_intrinsic_item (slice_get items.now place) }
 {
     match items.get(place) {
-        Some(Item::Var(var)) => is_intrinsic(var.name.as_slice()),
-        Some(Item::Func(func)) => is_intrinsic(func.name.as_slice()),
+        Some(Item::Var(var)) => Intrinsic::of_name(var.name.as_slice()).is_some(),
+        Some(Item::Func(func)) => Intrinsic::of_name(func.name.as_slice()).is_some(),
         None => false,
     }
 }

@@ -1,7 +1,7 @@
 //! Types of operands.
 ghost use Rattle.std.specs.Prelude.{◌≡◌, ◌↔◌, ◌<◌, IsTrue};
 ghost use Rattle.std.specs.List.{All};
-ghost use Rattle.ir_syntax.specs.Typed.{HasType, Widths, IsInteger, width};
+ghost use Rattle.ir_syntax.specs.Typed.{HasType, Widths};
 ghost use Rattle.ir_check.specs.Scopes.{types_of};
 
 use crate::names::names_no_intrinsic;
@@ -16,35 +16,14 @@ pub fn same_scalar(a: Scalar, b: Scalar) -> bool
     a == b
 }
 
-/// Whether the type is one of integers.
-pub fn is_integer(ty: Scalar) -> bool
-    ensures { IsTrue result ↔ IsInteger ty }
-{
-    ty != Scalar::Ptr
-}
-
-/// The bits of a type.
-fn width(ty: Scalar) -> u32
-    ensures { result ≡ width ty }
-{
-    match ty {
-        Scalar::I1 => 1,
-        Scalar::I8 => 8,
-        Scalar::I16 => 16,
-        Scalar::I32 => 32,
-        Scalar::I64 => 64,
-        Scalar::Ptr => 64,
-    }
-}
-
 /// Whether the cast goes to a wider type, or to a narrower one for `trunc`.
 pub fn has_widths(op: CastOp, from: Scalar, to: Scalar) -> bool
     ensures { IsTrue result ↔ Widths op from to }
 {
     match op {
-        CastOp::Zext => width(from) < width(to),
-        CastOp::Sext => width(from) < width(to),
-        CastOp::Trunc => width(to) < width(from),
+        CastOp::Zext => from.width() < to.width(),
+        CastOp::Sext => from.width() < to.width(),
+        CastOp::Trunc => to.width() < from.width(),
     }
 }
 

@@ -7,29 +7,12 @@ use ir_syntax::{Block, Body, Inst};
 use ir_types::{OutOfMemory, Scalar};
 use std::alloc::Global;
 
-/// The type of the instruction's result, where it has one.
-fn result_type(inst: &Inst) -> Option<Scalar>
-    ensures { result ≡ result_type inst.now }
-{
-    match inst {
-        Inst::Bin { ty, .. } => Some(*ty),
-        Inst::Icmp { .. } => Some(Scalar::I1),
-        Inst::Select { ty, .. } => Some(*ty),
-        Inst::Cast { to, .. } => Some(*to),
-        Inst::Alloca { .. } => Some(Scalar::Ptr),
-        Inst::Load { ty, .. } => Some(*ty),
-        Inst::Store { .. } => None,
-        Inst::Gep { .. } => Some(Scalar::Ptr),
-        Inst::Call { fn_ty, .. } => fn_ty.returns,
-    }
-}
-
 /// Adds the types of the instructions' results.
 fn add_insts(types: &mut Vec<Scalar>, insts: &[Inst]) -> Result<(), OutOfMemory>
     ensures { OnOk result (types.new.items ≡ types.old.items ++ filter_map result_type insts.now) }
 {
     for inst in insts {
-        match result_type(inst) {
+        match inst.result_type() {
             Some(ty) => types.push(ty)?,
             None => {}
         }

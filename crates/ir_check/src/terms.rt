@@ -1,11 +1,10 @@
 //! Types of terminators.
-ghost use Rattle.std.specs.Prelude.{◌≡◌, ◌≢◌, ◌↔◌, IsTrue, IfOk};
+ghost use Rattle.std.specs.Prelude.{◌≡◌, ◌≢◌, ◌↔◌, IsTrue, IfOk, Some};
 ghost use Rattle.std.specs.List.{AllPairs};
 ghost use Rattle.ir_syntax.specs.Typed.{TypedTerm};
 ghost use Rattle.ir_check.specs.Scopes.{types_of};
 
-use crate::calls::same_return;
-use crate::operands::{has_type, is_integer};
+use crate::operands::{has_type, same_scalar};
 use crate::scope::Scope;
 use ir_syntax::Term;
 use ir_types::{OutOfMemory, Scalar};
@@ -20,6 +19,16 @@ fn are_distinct(alloc: Global, cases: &[(u64, usize)]) -> Result<bool, OutOfMemo
     Ok(seen.len() == cases.len())
 }
 
+/// Whether a function that returns so returns values of this type.
+fn is_returned(returns: Option<Scalar>, ty: Scalar) -> bool
+    ensures { IsTrue result ↔ (returns ≡ Some ty) }
+{
+    match returns {
+        Some(found) => same_scalar(found, ty),
+        None => false,
+    }
+}
+
 /// Whether the terminator of a function with this return type is well typed.
 pub fn is_typed_term(
     alloc: Global,
@@ -32,7 +41,7 @@ pub fn is_typed_term(
     match term {
         Term::RetVoid => Ok(returns.is_none()),
         Term::Ret(ty, value) => {
-            Ok(same_return(returns, Some(*ty)) && has_type(scope, *ty, value))
+            Ok(is_returned(returns, *ty) && has_type(scope, *ty, value))
         }
         Term::Br(_) => Ok(true),
         Term::CondBr(cond, _, _) => Ok(has_type(scope, Scalar::I1, cond)),
@@ -43,7 +52,7 @@ pub fn is_typed_term(
             ..
         } => {
             let distinct = are_distinct(alloc, cases.as_slice())?;
-            Ok(is_integer(*ty) && has_type(scope, *ty, value) && distinct)
+            Ok(ty.is_integer() && has_type(scope, *ty, value) && distinct)
         }
         Term::Unreachable => Ok(true),
     }

@@ -2,6 +2,7 @@ pub mod Contained
 pub mod Words
 pub mod Arriving
 pub mod Searching
+pub mod Nexts
 pub mod Passing
 pub mod Sharing
 pub mod Defining

@@ -44,18 +44,5 @@ fn add_insts(definers: &mut Vec<usize>, place: usize, insts: &[Inst]) -> Result<
 pub(crate) fn results_of(inst: &Inst) -> usize
     ensures { result ≡ has_result (result_type inst.now) }
 {
-    match inst {
-        Inst::Bin { .. } => 1,
-        Inst::Icmp { .. } => 1,
-        Inst::Select { .. } => 1,
-        Inst::Cast { .. } => 1,
-        Inst::Alloca { .. } => 1,
-        Inst::Load { .. } => 1,
-        Inst::Store { .. } => 0,
-        Inst::Gep { .. } => 1,
-        Inst::Call { fn_ty, .. } => match fn_ty.returns {
-            Some(_) => 1,
-            None => 0,
-        },
-    }
+    if inst.has_result() { 1 } else { 0 }
 }

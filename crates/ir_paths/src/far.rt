@@ -1,13 +1,13 @@
 //! The uses that their own block doesn't settle.
-ghost use Rattle.std.specs.Prelude.{◌≡◌, ◌+◌, ◌^◌, ◌<◌, ◌++◌, length, map, flat_map, IfOk, OnOk};
+ghost use Rattle.std.specs.Prelude.{◌≡◌, ◌+◌, ◌^◌, ◌<◌, ◌++◌, length, flat_map, IfOk, OnOk};
 ghost use Rattle.std.specs.List.{filter_map};
 ghost use Rattle.ir_syntax.specs.Results.{result_type, block_results};
-ghost use Rattle.ir_syntax.specs.Definite.{operands, term_operands};
+ghost use Rattle.ir_syntax.specs.Operands.{operands, term_operands};
 ghost use Rattle.ir_paths.specs.FarUses.{definers_from, far_use, operand_far, entry_far, phi_far, insts_far, block_far, far_from, far_uses as far_uses_of};
 
 use crate::definers::results_of;
-use ir_syntax::{Arg, Block, Inst, Operand, Phi, Term};
-use ir_types::{OutOfMemory, Scalar};
+use ir_syntax::{Block, Inst, Operand, Phi, Term};
+use ir_types::OutOfMemory;
 use sqlite_items::at;
 use std::alloc::Global;
 
@@ -127,54 +127,11 @@ fn add_inst(
 ) -> Result<(), OutOfMemory>
     ensures { OnOk result (far.new.items ≡ far.old.items ++ flat_map (operand_far definers.now place until) (operands inst.now)) }
 {
-    match inst {
-        Inst::Bin { a, b, .. } => add_two(far, definers, place, until, a, b),
-        Inst::Icmp { a, b, .. } => add_two(far, definers, place, until, a, b),
-        Inst::Select { cond, a, b, .. } => {
-            add_operand(far, definers, place, until, cond)?;
-            add_two(far, definers, place, until, a, b)
+    for k in 0..inst.operand_count() {
+        match inst.operand(k) {
+            Some(operand) => add_operand(far, definers, place, until, operand)?,
+            None => return Ok(()),
         }
-        Inst::Cast { a, .. } => add_operand(far, definers, place, until, a),
-        Inst::Alloca { .. } => Ok(()),
-        Inst::Load { at, .. } => add_operand(far, definers, place, until, at),
-        Inst::Store { value, at, .. } => add_two(far, definers, place, until, value, at),
-        Inst::Gep { base, indices, .. } => {
-            add_operand(far, definers, place, until, base)?;
-            add_indices(far, definers, place, until, indices.as_slice())
-        }
-        Inst::Call { callee, args, .. } => {
-            add_operand(far, definers, place, until, callee)?;
-            add_args(far, definers, place, until, args.as_slice())
-        }
-    }
-}
-
-fn add_indices(
-    far: &mut Vec<Far>,
-    definers: &[usize],
-    place: usize,
-    until: usize,
-    indices: &[(Scalar, Operand)],
-) -> Result<(), OutOfMemory>
-    ensures { OnOk result (far.new.items ≡ far.old.items ++ flat_map (operand_far definers.now place until) (map (λ index. index.1) indices.now)) }
-{
-    for index in indices {
-        add_operand(far, definers, place, until, &index.1)?;
-    }
-    Ok(())
-}
-
-fn add_args(
-    far: &mut Vec<Far>,
-    definers: &[usize],
-    place: usize,
-    until: usize,
-    args: &[Arg],
-) -> Result<(), OutOfMemory>
-    ensures { OnOk result (far.new.items ≡ far.old.items ++ flat_map (operand_far definers.now place until) (map (λ arg. arg.value) args.now)) }
-{
-    for arg in args {
-        add_operand(far, definers, place, until, &arg.value)?;
     }
     Ok(())
 }
@@ -188,28 +145,10 @@ fn add_term(
 ) -> Result<(), OutOfMemory>
     ensures { OnOk result (far.new.items ≡ far.old.items ++ flat_map (operand_far definers.now place until) (term_operands term.now)) }
 {
-    match term {
-        Term::RetVoid => Ok(()),
-        Term::Ret(_, value) => add_operand(far, definers, place, until, value),
-        Term::Br(_) => Ok(()),
-        Term::CondBr(cond, _, _) => add_operand(far, definers, place, until, cond),
-        Term::Switch { value, .. } => add_operand(far, definers, place, until, value),
-        Term::Unreachable => Ok(()),
+    match term.operand() {
+        Some(operand) => add_operand(far, definers, place, until, operand),
+        None => Ok(()),
     }
-}
-
-fn add_two(
-    far: &mut Vec<Far>,
-    definers: &[usize],
-    place: usize,
-    until: usize,
-    a: &Operand,
-    b: &Operand,
-) -> Result<(), OutOfMemory>
-    ensures { OnOk result (far.new.items ≡ far.old.items ++ (operand_far definers.now place until a.now ++ operand_far definers.now place until b.now)) }
-{
-    add_operand(far, definers, place, until, a)?;
-    add_operand(far, definers, place, until, b)
 }
 
 fn add_operand(

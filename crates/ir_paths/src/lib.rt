@@ -13,8 +13,6 @@ mod fault;
 mod items;
 mod order;
 mod spread;
-#[cfg(test)]
-mod tests;
 
 pub use fault::PathFault;
 pub use items::{check_items, check_paths};

@@ -43,20 +43,13 @@ fn left_order(alloc: Global, blocks: &[Block]) -> Result<Vec<usize>, OutOfMemory
 
 // The blocks behind a terminator are to be entered, where they aren't yet.
 fn enter_next(steps: &mut Vec<Step>, entered: &[bool], term: &Term) -> Result<(), OutOfMemory> {
-    match term {
-        Term::Br(to) => enter(steps, entered, *to),
-        Term::CondBr(_, one, other) => {
-            enter(steps, entered, *other)?;
-            enter(steps, entered, *one)
+    for k in (0..term.successor_count()).rev() {
+        match term.successor(k) {
+            Some(to) => enter(steps, entered, to)?,
+            None => return Ok(()),
         }
-        Term::Switch { default, cases, .. } => {
-            for case in cases.as_slice() {
-                enter(steps, entered, case.1)?;
-            }
-            enter(steps, entered, *default)
-        }
-        _ => Ok(()),
     }
+    Ok(())
 }
 
 fn enter(steps: &mut Vec<Step>, entered: &[bool], place: usize) -> Result<(), OutOfMemory> {

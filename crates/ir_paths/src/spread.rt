@@ -99,34 +99,11 @@ fn leave(
     requires { length words.old ≡ length flags.old }
     ensures { OnOk result ((words.new, flags.new, next.new.items) ≡ arrived_all bits (successors term.now) (words.old, flags.old, next.old.items)) }
 {
-    match term {
-        Term::RetVoid => Ok(()),
-        Term::Ret(_, _) => Ok(()),
-        Term::Br(to) => arrive(words, flags, next, *to, bits),
-        Term::CondBr(_, one, other) => {
-            arrive(words, flags, next, *one, bits)?;
-            arrive(words, flags, next, *other, bits)
+    for k in 0..term.successor_count() {
+        match term.successor(k) {
+            Some(to) => arrive(words, flags, next, to, bits)?,
+            None => return Ok(()),
         }
-        Term::Switch { default, cases, .. } => {
-            arrive(words, flags, next, *default, bits)?;
-            leave_cases(words, flags, next, cases.as_slice(), bits)
-        }
-        Term::Unreachable => Ok(()),
-    }
-}
-
-fn leave_cases(
-    words: &mut [u64],
-    flags: &mut [bool],
-    next: &mut Vec<usize>,
-    cases: &[(u64, usize)],
-    bits: u64,
-) -> Result<(), OutOfMemory>
-    requires { length words.old ≡ length flags.old }
-    ensures { OnOk result ((words.new, flags.new, next.new.items) ≡ arrived_all bits (map (λ case. case.1) cases.now) (words.old, flags.old, next.old.items)) }
-{
-    for case in cases {
-        arrive(words, flags, next, case.1, bits)?;
     }
     Ok(())
 }

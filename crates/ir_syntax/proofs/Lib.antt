@@ -1,3 +1,4 @@
+pub mod IndexLemmas
 pub mod MappedLemmas
 pub mod NameLemmas
 pub mod ResultLemmas

@@ -3,6 +3,7 @@ use Rattle.std.proofs.Common.{◌≡◌, ℕ, zero, suc, ◌+◌, ◌-◌, ◌<�
 use Rattle.std.proofs.lemmas.List.{drop_all}
 use Rattle.std.proofs.lemmas.Bool.{false≢true}
 use Rattle.std.specs.List.{slice_get, filter_map, flat_map}
+use Rattle.ir_types.proofs.ListSteps.{drop_at, slice_get-after}
 use Rattle.ir_syntax.specs.declared.body.Inst.{Inst}
 use Rattle.ir_syntax.specs.declared.body.Block.{Block}
 use Rattle.ir_types.specs.declared.scalar.Scalar.{Scalar}
@@ -17,28 +18,11 @@ types_at_some x ty rest is = rw (sym is)
 types_at_none : (x : Inst) (rest : List Inst) → None ≡ result_type x → types (x ∷ rest) ≡ types rest
 types_at_none x rest is = rw (sym is)
 
-pub drop_at : {A : Type 0} (xs : List A) (i : ℕ) (x : A) → i < length xs → x ≡ get_or xs i x → drop i xs ≡ x ∷ drop (i + 1) xs
-drop_at xs i x within is = rw add-one (drop-cons xs i x within ∙ ap (λ y. y ∷ drop (suc i) xs) (sym is))
-
 pub types_some : (insts : List Inst) (i : ℕ) (x : Inst) (ty : Scalar) → i < length insts → x ≡ get_or insts i x → Some ty ≡ result_type x → filter_map result_type (drop i insts) ≡ ty ∷ filter_map result_type (drop (i + 1) insts)
 types_some insts i x ty within is some = ap types (drop_at insts i x within is) ∙ types_at_some x ty (drop (i + 1) insts) some
 
 pub types_none : (insts : List Inst) (i : ℕ) (x : Inst) → i < length insts → x ≡ get_or insts i x → None ≡ result_type x → filter_map result_type (drop i insts) ≡ filter_map result_type (drop (i + 1) insts)
 types_none insts i x within is none = ap types (drop_at insts i x within is) ∙ types_at_none x (drop (i + 1) insts) none
-
-pub slice_get-after : {A : Type 0} (x : A) (xs : List A) (k : ℕ) → 0 < k → slice_get (x ∷ xs) k ≡ slice_get xs (k - 1)
-slice_get-after x xs zero pos = absurd (omega arith)
-slice_get-after x xs (suc k) pos = ap (slice_get xs) (omega arith)
-
-pub slice_get-append_first : {A : Type 0} (xs ys : List A) (k : ℕ) (x : A) → slice_get xs k ≡ Some x → slice_get (xs ++ ys) k ≡ Some x
-slice_get-append_first [] ys k x is = absurd (cc)
-slice_get-append_first (y ∷ xs) ys zero x is = is
-slice_get-append_first (y ∷ xs) ys (suc k) x is = slice_get-append_first xs ys k x is
-
-pub slice_get-append_rest : {A : Type 0} (xs ys : List A) (left k : ℕ) → left + length xs ≡ k → slice_get (xs ++ ys) k ≡ slice_get ys left
-slice_get-append_rest [] ys left k is = ap (slice_get ys) (omega arith)
-slice_get-append_rest (x ∷ xs) ys left zero is = absurd (omega arith)
-slice_get-append_rest (x ∷ xs) ys left (suc k) is = slice_get-append_rest xs ys left k (omega arith)
 
 -- the results from a block on
 pub results_at : (blocks : List Block) (i : ℕ) (b : Block) → i < length blocks → b ≡ get_or blocks i b → flat_map block_results (drop i blocks) ≡ block_results b ++ flat_map block_results (drop (i + 1) blocks)

@@ -1,5 +1,9 @@
 //! What holds of modules and their parts. These functions do nothing: what they ensure is the law.
-ghost use Rattle.std.specs.Prelude.{◌≡◌, ◌↔◌, ◌≤◌, ℕ, List, Some, map, slice_get};
+ghost use Rattle.std.specs.Prelude.{◌≡◌, ◌↔◌, ◌<◌, ◌^◌, ℕ, List, Some, IsSomeAnd, map, slice_get};
+ghost use Rattle.ir_types.specs.declared.scalar.Scalar.{Scalar};
+ghost use Rattle.ir_types.specs.declared.shape.Ty.{Ty};
+ghost use Rattle.ir_types.specs.Nesting.{nodes};
+ghost use Rattle.ir_types.specs.Walk.{strides};
 ghost use Rattle.ir_syntax.specs.declared.constant.Operand.{Operand};
 ghost use Rattle.ir_syntax.specs.declared.body.Inst.{Inst};
 ghost use Rattle.ir_syntax.specs.declared.body.Term.{Term};
@@ -8,7 +12,8 @@ ghost use Rattle.ir_syntax.specs.declared.item.Func.{Func};
 ghost use Rattle.ir_syntax.specs.declared.item.Item.TheVariants as item;
 ghost use Rattle.ir_syntax.specs.declared.item.Module.{Module};
 ghost use Rattle.ir_syntax.specs.Formed.{Formed};
-ghost use Rattle.ir_syntax.specs.Typed.{Typed};
+ghost use Rattle.ir_syntax.specs.IndexWalks.{index_of, SuitStrides};
+ghost use Rattle.ir_syntax.specs.Typed.{IsWalk, Typed};
 ghost use Rattle.ir_syntax.specs.Definite.{Definite};
 ghost use Rattle.ir_syntax.specs.Edges.{successors};
 ghost use Rattle.ir_syntax.specs.Mapped.{map_operands, map_term, map_phi};
@@ -30,4 +35,11 @@ pub fn mapping_keeps_the_rest()
     ensures term_operands { (f : Operand → Operand) (t : Term) → term_operands (map_term f t) ≡ map f (term_operands t) }
     ensures successors { (f : Operand → Operand) (t : Term) → successors (map_term f t) ≡ successors t }
     ensures phi_operands { (f : Operand → Operand) (phi : Phi) → phi_operands (map_phi f phi) ≡ map f (phi_operands phi) }
+{}
+
+/// Typing accepts exactly the walks of a `getelementptr` into a type of fewer than 2^31 nodes for which layout has
+/// strides, where each index that adds a field's offset is a number of i32.
+pub fn walks_have_strides()
+    ensures { (ty : Ty) (indices : List (Scalar × Operand)) → nodes ty < 2 ^ 31
+        → IsWalk ty indices ↔ IsSomeAnd (strides ty (map index_of indices)) (SuitStrides indices) }
 {}

@@ -20,10 +20,7 @@ mod symbol;
 pub use body::{Arg, Block, Body, Inst, Phi, Term};
 pub use constant::{Const, Operand};
 pub use item::{Func, Item, Linkage, Module, Param, Var};
-pub use laws::{functions_are_sound, mapping_keeps_the_rest};
+pub use laws::{functions_are_sound, mapping_keeps_the_rest, walks_have_strides};
 pub use mapped::MapOperand;
 pub use program::Program;
 pub use symbol::{Builtin, Intrinsic, Sym, SymName, Target};
-
-#[cfg(test)]
-mod tests;

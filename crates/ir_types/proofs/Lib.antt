@@ -1,4 +1,5 @@
 pub mod Extents
+pub mod ListSteps
 pub mod Naming
 pub mod Nestings
 pub mod Sent

@@ -5,11 +5,11 @@ use Rattle.std.proofs.lemmas.Bool.Decides.{nat_tests}
 use Rattle.std.proofs.lemmas.List.{append-nil, drop_more}
 use Rattle.ir_lexer.specs.Written.{bytes_of}
 use Rattle.ir_types.specs.declared.scalar.Scalar.{Scalar}
-use Rattle.ir_types.specs.declared.shape.Ty.{Ty}
+use Rattle.ir_types.specs.declared.shape.Ty.{Ty, out-Ty}
 use Rattle.ir_types.specs.declared.shape.Ty.TheOpen.{Ty-F}
 use Rattle.ir_types.specs.declared.shape.Ty.TheViews.{Array, Struct}
 use Rattle.ir_types.specs.declared.shape.Ty.TheBlock.{One}
-use Rattle.ir_types.specs.declared.shape.Ty.TheVariants.{rolls-One, rolls-Array, rolls-Struct}
+use Rattle.ir_types.specs.declared.shape.Ty.TheVariants.{rolls-One, rolls-Array, rolls-Struct, outs-Array}
 use Rattle.ir_types.specs.declared.shape.Ty.TheFolds.{fold-roll-Ty}
 use Rattle.ir_writer.specs.Words.{Parts, listed, more, scalar_text}
 use Rattle.ir_writer.specs.Constants.{braced, type_step, type_parts}
@@ -106,6 +106,10 @@ array_written ty n t u out a b c d e is same one two three four five =
   where
     regroup : (count element : List ℕ) → ((((out ++ codes "[") ++ count) ++ codes " x ") ++ element) ++ codes "]" ≡ out ++ (codes "[" ++ (count ++ (codes " x " ++ (element ++ codes "]"))))
     regroup count element = simp append_assoc
+
+-- the layer of an array
+pub array_layer : (ty : Ty) (n : ℕ) (t u : Ty) → ty ≡ Array n t → u ≡ t → out-Ty ty ≡ Ty-F.Array n u
+array_layer ty n t u is same = ap out-Ty is ∙ outs-Array n t ∙ ap (λ v. Ty-F.Array n v) (sym same)
 
 -- braces round a list
 pub braces_written : (lists : List Parts) (out a b c : List ℕ) → 0 < length lists → a ≡ out ++ codes "{ " → b ≡ a ++ bytes_of (listed lists) → c ≡ b ++ codes " }" → c ≡ out ++ bytes_of (braced lists)

@@ -10,13 +10,9 @@ mod laws;
 mod names;
 mod operands;
 mod terminators;
-#[cfg(test)]
-mod tests;
 mod types;
 mod words;
 mod writing;
 
-pub use crate::laws::{
-    modules_of_one_text_are_one, straight_modules_are_written, what_is_written_is_read_again,
-};
+pub use crate::laws::straight_modules_are_written;
 pub use crate::writing::{write_module, write_name};

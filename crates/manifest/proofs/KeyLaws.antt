@@ -7,12 +7,13 @@ use Rattle.std.proofs.lemmas.Bool.Decides.{Decides-int_eq, Decides-and}
 use Rattle.std.proofs.lemmas.Option.{none-some, same_Some}
 use Rattle.serde_json.specs.Data.{Data}
 use Rattle.serde_json.specs.Find.{get, as_str}
-use Rattle.manifest.specs.Names.{IsModuleName, IsSymbolName, AreDistinct}
+use Rattle.ir_types.specs.Names.{IsName, is_name}
+use Rattle.manifest.specs.Names.{IsModuleName, AreDistinct}
 use Rattle.manifest.specs.Json.{IsText, IsInteger, IsArrayOf, HoldsAtKey}
 use Rattle.manifest.specs.Manifest.{IsVersionOne, AreModules, IsArgument, IsCall, IsEntry, AreSymbols, call_keys}
-use Rattle.manifest.specs.Reading.{integer_of, argument_of, is_version_one, are_modules, is_module_name, listed_texts, listed_arguments, modules_of, is_symbol_name, name_of, args_of, call_of, entry_of, are_symbols, texts_or_none, symbols_of}
+use Rattle.manifest.specs.Reading.{integer_of, argument_of, is_version_one, are_modules, is_module_name, listed_texts, listed_arguments, modules_of, name_of, args_of, call_of, entry_of, are_symbols, texts_or_none, symbols_of}
 use Rattle.manifest.proofs.Found.{Finds, Finds-some, Finds-like, Finds-at, Finds-passed, Finds-pair, Finds-guarded}
-use Rattle.manifest.proofs.NameLaws.{Decides-le, Decides-all, is_module_name-Decides, is_symbol_name-Decides, are_distinct-Decides}
+use Rattle.manifest.proofs.NameLaws.{Decides-le, Decides-all, is_module_name-Decides, is_name-Decides, are_distinct-Decides}
 use Rattle.manifest.proofs.JsonLaws.{as_str-Finds, argument_of-Finds, listed-Finds, only-Decides}
 
 -- ---- version
@@ -51,8 +52,8 @@ modules_of-Finds d =
 
 -- ---- entry
 
-name_of-Finds : (d : Data) → Finds (name_of d) (λ name. HoldsAtKey (codes "name") (IsText name) d × IsSymbolName name)
-name_of-Finds d = Finds-passed is_symbol_name _ IsSymbolName is_symbol_name-Decides _ (Finds-at as_str (λ e name. IsText name e) as_str-Finds (get (codes "name") d))
+name_of-Finds : (d : Data) → Finds (name_of d) (λ name. HoldsAtKey (codes "name") (IsText name) d × IsName name)
+name_of-Finds d = Finds-passed is_name _ IsName is_name-Decides _ (Finds-at as_str (λ e name. IsText name e) as_str-Finds (get (codes "name") d))
 
 args_of-Finds : (d : Data) → Finds (args_of d) (λ args. HoldsAtKey (codes "args") (IsArrayOf IsArgument args) d × (length args ≤ 32))
 args_of-Finds d =
@@ -75,10 +76,10 @@ entry_of-Finds d = Finds-at call_of Called call_of-Finds (get (codes "entry") d)
 -- ---- exports and outside
 
 abbrev SymbolsTest : List (List ℕ) → Type 0
-SymbolsTest names = All IsSymbolName names × AreDistinct names
+SymbolsTest names = All IsName names × AreDistinct names
 
 are_symbols-Decides : (names : List (List ℕ)) → Decides (are_symbols names) (SymbolsTest names)
-are_symbols-Decides names = Decides-and _ _ (Decides-all is_symbol_name IsSymbolName is_symbol_name-Decides names) (are_distinct-Decides names)
+are_symbols-Decides names = Decides-and _ _ (Decides-all is_name IsName is_name-Decides names) (are_distinct-Decides names)
 
 texts_or_none-Finds : (o : Option Data) → Finds (texts_or_none o) (λ names. MatchOption o (names ≡ []) (IsArrayOf IsText names))
 texts_or_none-Finds None = Finds-some [] _ refl (λ names e. sym e)

@@ -9,8 +9,9 @@ use Rattle.std.proofs.lemmas.Bool.Decides.{Decides-eqb, Decides-like, Decides-no
 use Rattle.std.proofs.lemmas.List.Elements.{Decides-contains}
 use Rattle.std.proofs.lemmas.Map.Made.{IsDistinct-from_count, distinct_count-from_IsDistinct, AllPairs-from_IsDistinct, IsDistinct-from_AllPairs}
 use Rattle.std.proofs.lemmas.Slice.Eq.{bytes_eq-Decides}
-use Rattle.manifest.specs.Names.{IsModuleByte, IsPart, IsModuleName, IsSymbolName, AreDistinct, parts}
-use Rattle.manifest.specs.Reading.{is_among, is_module_byte, is_part, is_module_name, is_symbol_name, are_distinct}
+use Rattle.ir_types.specs.Names.{IsName, is_name}
+use Rattle.manifest.specs.Names.{IsModuleByte, IsPart, IsModuleName, AreDistinct, parts}
+use Rattle.manifest.specs.Reading.{is_among, is_module_byte, is_part, is_module_name, are_distinct}
 
 pub Decides-le : (a b : ℕ) → Decides (nat_le a b) (a ≤ b)
 Decides-le a b = (leb-true a b, le-leb a b)
@@ -45,11 +46,11 @@ is_module_name-Decides name =
     (Decides-all is_module_byte IsModuleByte is_module_byte-Decides name))
     (Decides-all is_part IsPart is_part-Decides (parts name)))
 
-pub is_symbol_name-Decides : (name : List ℕ) → Decides (is_symbol_name name) (IsSymbolName name)
-is_symbol_name-Decides name =
-    Decides-like (is_symbol_name name)
-    (λ p. record { some = p.0.0; short = p.0.1; bytes = p.1 })
-    (λ n. ((n.some, n.short), n.bytes))
+pub is_name-Decides : (name : List ℕ) → Decides (is_name name) (IsName name)
+is_name-Decides name =
+    Decides-like (is_name name)
+    (λ p. record { not_empty = p.0.0; short = p.0.1; no_zero = p.1 })
+    (λ n. ((n.not_empty, n.short), n.no_zero))
     (Decides-and _ _ (Decides-and _ _ (Decides-le 1 (length name)) (Decides-le (length name) 4096))
     (Decides-all (λ b. not (b == 0)) (λ b. b ≢ 0) (λ b. Decides-not _ (Decides-eqb b 0)) name))
 

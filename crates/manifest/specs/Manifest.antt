@@ -2,7 +2,8 @@
 use Rattle.std.specs.Prelude.{◌≡◌, ℕ, ◌<◌, ◌≤◌, ◌^◌, ◌-◌, ◌⊎◌, ℤ, pos, negsuc, ◌≤ℤ◌, List, [], ◌∷◌, length, codes, Option, Some, None, IsSome, MatchOption, All, Result, Ok, Err}
 use Rattle.serde_json.specs.Data.{Data, null}
 use Rattle.serde_json.specs.Find.{get, as_object}
-use Rattle.manifest.specs.Names.{IsModuleName, IsSymbolName, AreDistinct}
+use Rattle.ir_types.specs.Names.{IsName}
+use Rattle.manifest.specs.Names.{IsModuleName, AreDistinct}
 use Rattle.manifest.specs.Json.{HasValue, HasNoValue, IsText, IsInteger, IsArrayOf, HoldsAtKey, HasOnlyKeys}
 use Rattle.manifest.specs.declared.fault.Manifest.{Manifest}
 use Rattle.manifest.specs.declared.fault.Key.{Key}
@@ -38,7 +39,7 @@ pub record IsCall (value : Data) (name : List ℕ) (args : List (Option ℤ)) : 
   pub just : HasOnlyKeys call_keys value
   pub name_there : HoldsAtKey (codes "name") (IsText name) value
   pub args_there : HoldsAtKey (codes "args") (IsArrayOf IsArgument args) value
-  pub named : IsSymbolName name
+  pub named : IsName name
   pub few : length args ≤ 32
 
 abbrev pub IsEntry : Data → List ℕ → List (Option ℤ) → Type 0
@@ -48,7 +49,7 @@ IsEntry value name args = HoldsAtKey (codes "entry") (λ entry. IsCall entry nam
 pub record AreSymbols (key : List ℕ) (value : Data) (names : List (List ℕ)) : Type 0 where
   pub listed : MatchOption (get key value) (names ≡ []) (IsArrayOf IsText names)
   pub distinct : AreDistinct names
-  pub named : All IsSymbolName names
+  pub named : All IsName names
 
 abbrev pub manifest_keys : List (List ℕ)
 manifest_keys = codes "version" ∷ codes "modules" ∷ codes "entry" ∷ codes "exports" ∷ codes "outside" ∷ []

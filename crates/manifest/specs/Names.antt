@@ -1,4 +1,4 @@
--- Which bytes are the name of a module or of a symbol, and when names are distinct.
+-- Which bytes are the name of a module, and when names are distinct.
 use Rattle.std.specs.Prelude.{◌≢◌, ℕ, ◌≤◌, ◌⊎◌, ◌==◌, List, [], length, codes, All, AllPairs, Contains}
 use Rattle.std.specs.Char.{IsAsciiAlphanumeric}
 use Rattle.std.specs.List.{slice_split}
@@ -21,12 +21,6 @@ pub record IsModuleName (name : List ℕ) : Type 0 where
   pub short : length name ≤ 255
   pub bytes : All IsModuleByte name
   pub whole : All IsPart (parts name)
-
--- 1 to 4,096 bytes, none of them zero
-pub record IsSymbolName (name : List ℕ) : Type 0 where
-  pub some : 1 ≤ length name
-  pub short : length name ≤ 4096
-  pub bytes : All (λ byte. byte ≢ 0) name
 
 -- no name stands at two places
 abbrev pub AreDistinct : List (List ℕ) → Type 0

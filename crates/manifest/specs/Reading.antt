@@ -7,6 +7,7 @@ use Rattle.std.specs.Ordering.{int_eq}
 use Rattle.std.specs.Set.{distinct_count}
 use Rattle.serde_json.specs.Data.{Data, Items, no_items, item, Members, no_members, member}
 use Rattle.serde_json.specs.Find.{get, as_null, as_number, as_integer, as_str, as_array, as_object}
+use Rattle.ir_types.specs.Names.{is_name}
 use Rattle.manifest.specs.Names.{parts}
 use Rattle.manifest.specs.Manifest.{call_keys, manifest_keys}
 use Rattle.manifest.specs.declared.fault.Manifest.{Manifest}
@@ -29,9 +30,6 @@ is_part part = not (bytes_eq part []) && not (bytes_eq part (codes ".")) && not 
 
 abbrev pub is_module_name : List ℕ → Bool
 is_module_name name = nat_lt 0 (length name) && nat_le (length name) 255 && list_all is_module_byte name && list_all is_part (parts name)
-
-abbrev pub is_symbol_name : List ℕ → Bool
-is_symbol_name name = nat_lt 0 (length name) && nat_le (length name) 4096 && list_all (λ b. not (b == 0)) name
 
 abbrev pub are_distinct : List (List ℕ) → Bool
 are_distinct names = distinct_count bytes_eq names == length names
@@ -83,7 +81,7 @@ abbrev pub modules_of : Data → Option (List (List ℕ))
 modules_of value = passed are_modules (option_and_then listed_texts (get (codes "modules") value))
 
 abbrev pub name_of : Data → Option (List ℕ)
-name_of call = passed is_symbol_name (option_and_then as_str (get (codes "name") call))
+name_of call = passed is_name (option_and_then as_str (get (codes "name") call))
 
 abbrev pub args_of : Data → Option (List (Option ℤ))
 args_of call = passed (λ args. nat_le (length args) 32) (option_and_then listed_arguments (get (codes "args") call))
@@ -95,7 +93,7 @@ abbrev pub entry_of : Data → Option (List ℕ × List (Option ℤ))
 entry_of value = option_and_then call_of (get (codes "entry") value)
 
 abbrev pub are_symbols : List (List ℕ) → Bool
-are_symbols names = list_all is_symbol_name names && are_distinct names
+are_symbols names = list_all is_name names && are_distinct names
 
 -- what stands at a key, or nothing where it is missing
 abbrev pub texts_or_none : Option Data → Option (List (List ℕ))

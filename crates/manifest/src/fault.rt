@@ -18,7 +18,7 @@ pub struct Manifest {
     pub args: List<Option<i128>>,
     /// The names of the functions that the outside may call besides, in the order of the text.
     pub exports: List<Bytes>,
-    /// The names of the functions and variables that the outside gives, in the order of the text.
+    /// The names of the functions that the outside gives, in the order of the text.
     pub outside: List<Bytes>,
 }
 

@@ -10,8 +10,6 @@ mod fault;
 mod laws;
 mod names;
 mod shape;
-#[cfg(test)]
-mod tests;
 mod text;
 
 pub use fault::{Key, Manifest, ManifestFault, key_name};

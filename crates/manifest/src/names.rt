@@ -1,18 +1,17 @@
 //! Tests of names.
-ghost use Rattle.std.specs.Prelude.{◌≡◌, ◌==◌, not, IfOk};
+ghost use Rattle.std.specs.Prelude.{◌≡◌, IfOk};
 ghost use Rattle.std.specs.List.{list_all};
+ghost use Rattle.ir_types.specs.Names.{is_name};
 ghost use Rattle.manifest.specs.Names.{parts};
 ghost use Rattle.manifest.specs.Reading as reading;
 
-use ir_types::{Bytes, OutOfMemory};
+use ir_types::{Bytes, OutOfMemory, is_name};
 use std::alloc::Global;
 use std::collections::BTreeSet;
 
 const MAX_MODULES: usize = 256;
 
 const MAX_MODULE_NAME: usize = 255;
-
-const MAX_SYMBOL_NAME: usize = 4_096;
 
 fn is_module_byte(byte: u8) -> bool
     ensures { result ≡ reading.is_module_byte byte }
@@ -48,22 +47,6 @@ fn is_module_name(name: &[u8]) -> bool
     has_module_bytes(name) && has_parts(name)
 }
 
-fn has_no_zero(name: &[u8]) -> bool
-    ensures { result ≡ list_all (λ byte. not (byte == 0)) name.now }
-{
-    name.iter().all(|byte| *byte != 0)
-}
-
-// The name of a function or a variable.
-pub fn is_symbol_name(name: &[u8]) -> bool
-    ensures { result ≡ reading.is_symbol_name name.now }
-{
-    if name.is_empty() || name.len() > MAX_SYMBOL_NAME {
-        return false;
-    }
-    has_no_zero(name)
-}
-
 fn are_module_names(names: &[Bytes]) -> bool
     ensures { result ≡ list_all reading.is_module_name names.now }
 {
@@ -71,9 +54,9 @@ fn are_module_names(names: &[Bytes]) -> bool
 }
 
 fn are_symbol_names(names: &[Bytes]) -> bool
-    ensures { result ≡ list_all reading.is_symbol_name names.now }
+    ensures { result ≡ list_all is_name names.now }
 {
-    names.iter().all(|name| is_symbol_name(name.as_slice()))
+    names.iter().all(|name| is_name(name.as_slice()))
 }
 
 // No two names are the same.

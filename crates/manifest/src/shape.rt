@@ -5,8 +5,8 @@ ghost use Rattle.serde_json.specs.View.{view, items_view, members_view};
 ghost use Rattle.manifest.specs.Manifest.{call_keys, manifest_keys};
 ghost use Rattle.manifest.specs.Reading as reading;
 
-use crate::names::{are_modules, are_symbols, is_symbol_name};
-use ir_types::{Bytes, OutOfMemory};
+use crate::names::{are_modules, are_symbols};
+use ir_types::{Bytes, OutOfMemory, is_name};
 use serde_json::Value;
 use sqlite_items::Items as List;
 use std::alloc::Global;
@@ -111,7 +111,7 @@ fn symbol_name(alloc: Global, call: &Value) -> Result<Option<Bytes>, OutOfMemory
     let Some(name) = listed.as_str() else {
         return Ok(None);
     };
-    if !is_symbol_name(name.as_bytes()) {
+    if !is_name(name.as_bytes()) {
         return Ok(None);
     }
     Ok(Some(Bytes::from_slice(alloc, name.as_bytes())?))

@@ -1,9 +1,12 @@
 //! Reads the texts of modules from a file, each behind a line `; ----`, writes each again and prints it, so that tables
-//! of modules can be tried: `module_rows FILE` prints for each what is written, or why the text spells no module.
+//! of modules can be tried: `module_rows FILE` prints for each what is written, or why the text spells no module. Before
+//! them it prints the rows that have names, one line for each.
 #![tactic(auto)]
 
+mod named;
 mod rows;
 
+use crate::named::{NAMES, TEXTS, name_row};
 use crate::rows::{Row, row_of};
 use std::process::ExitCode;
 use std::rt::{Env, Files};
@@ -30,16 +33,37 @@ fn run<R: Env + Files + Print + AllocGlobal>(rt: &R) -> io::Result<u8> {
         }
     };
     let text = fs::read_to_string(rt, name)?;
+    print_names(rt)?;
+    print_texts(rt)?;
     for piece in text.split(BETWEEN) {
         print!(rt; "{BETWEEN}")?;
-        print_row(rt, piece)?;
+        print_row(rt, &row_of(rt.alloc(), piece.as_bytes()))?;
     }
     Ok(0)
 }
 
-// What is said of one text.
-fn print_row<R: Print + AllocGlobal>(rt: &R, text: &str) -> io::Result<()> {
-    match row_of(rt.alloc(), text.as_bytes()) {
+// How each name of the table is written.
+fn print_names<R: Print + AllocGlobal>(rt: &R) -> io::Result<()> {
+    for (called, name) in NAMES.iter() {
+        print!(rt; "{called}: ")?;
+        print_row(rt, &name_row(rt.alloc(), name))?;
+        println!(rt; "")?;
+    }
+    Ok(())
+}
+
+// What comes of each text of the table.
+fn print_texts<R: Print + AllocGlobal>(rt: &R) -> io::Result<()> {
+    for (called, text) in TEXTS.iter() {
+        print!(rt; "{called}: ")?;
+        print_row(rt, &row_of(rt.alloc(), text))?;
+    }
+    Ok(())
+}
+
+// What is said of one row.
+fn print_row<R: Print + AllocGlobal>(rt: &R, row: &Row) -> io::Result<()> {
+    match row {
         Row::Written(bytes) => match str::from_utf8(bytes.as_slice()) {
             Ok(written) => print!(rt; "{written}"),
             Err(_) => println!(rt; "written, and no text"),

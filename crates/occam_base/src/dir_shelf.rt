@@ -5,10 +5,13 @@ use crate::{Failed, Fault, Read, Shelf};
 use ir_types::OutOfMemory;
 use std::alloc::Global;
 use std::fs;
-use std::fs::OpenFile;
+use std::fs::{OpenFile, OpenOptions};
 use std::io::{ErrorKind, Read as ReadBytes, Seek, SeekFrom, Write};
 use std::path::Path;
 use std::rt::Files;
+
+/// How many short names are tried before a put fails.
+const TRIES: u32 = 10_000;
 
 /// The files below the current folder. It tells contracts nothing of what they hold.
 #[derive(Drop)]
@@ -47,8 +50,9 @@ impl<'r, R: Files + AllocGlobal> Shelf for DirShelf<'r, R> {
         }
     }
 
-    /// Makes missing folders on the way. The bytes go to a file beside it first, which then takes its name, so
-    /// that a crash leaves the old file or the new one.
+    /// Makes missing folders on the way. The bytes go to a new file in the same folder first, of a name that no
+    /// module has, which then takes the name, so that a crash leaves the old file or the new one, and no other
+    /// file is touched.
     fn put(&mut self, name: &str, bytes: &[u8]) -> Result<(), Fault> {
         match put_file(self.rt, name, bytes) {
             Ok(()) => Ok(()),
@@ -84,41 +88,55 @@ fn read_file<R: Files>(rt: &R, name: &str, at: u64, buf: &mut [u8]) -> Result<Re
 }
 
 fn put_file<R: Files + AllocGlobal>(rt: &R, name: &str, bytes: &[u8]) -> Result<(), Fault> {
-    let beside = match beside_of(rt.alloc(), name) {
-        Ok(beside) => beside,
-        Err(OutOfMemory) => return Err(Fault::OutOfMemory),
-    };
-    match write_whole(rt, name, beside.as_str(), bytes) {
-        Ok(()) => Ok(()),
-        Err(Failed) => {
-            let _ = fs::remove_file(rt, beside.as_str());
-            Err(Fault::Failed)
-        }
-    }
-}
-
-// The name of the file that is written first.
-fn beside_of(alloc: Global, name: &str) -> Result<String, OutOfMemory> {
-    let mut beside = String::from_str(alloc, name)?;
-    beside.push_str(".part")?;
-    Ok(beside)
-}
-
-fn write_whole<R: Files>(rt: &R, name: &str, beside: &str, bytes: &[u8]) -> Result<(), Failed> {
     if let Some(folder) = Path::new(name).parent() {
         if fs::create_dir_all(rt, folder).is_err() {
-            return Err(Failed);
+            return Err(Fault::Failed);
         }
     }
-    let mut file = match fs::create(rt, beside) {
-        Ok(file) => file,
-        Err(_) => return Err(Failed),
-    };
-    if file.write_all(bytes).is_err() || file.sync_all().is_err() {
-        return Err(Failed);
+    let Beside { path, mut file } = create_beside(rt, name)?;
+    if write_whole(rt, &mut file, bytes) && fs::rename(rt, path.as_str(), name).is_ok() {
+        return Ok(());
     }
-    match fs::rename(rt, beside, name) {
-        Ok(()) => Ok(()),
-        Err(_) => Err(Failed),
+    let _ = fs::remove_file(rt, path.as_str());
+    Err(Fault::Failed)
+}
+
+/// A new file in the folder of another one.
+struct Beside<F> {
+    path: String,
+    file: F,
+}
+
+// Makes a file in the folder of the named one, which nobody else has: its name is `~` and the least number of which no
+// file is there. No module has such a name.
+fn create_beside<R: Files + AllocGlobal>(rt: &R, name: &str) -> Result<Beside<R::File>, Fault> {
+    let mut options = OpenOptions::new();
+    options.write(true).create_new(true);
+    for number in 0..TRIES {
+        let path = match short_path(rt.alloc(), name, number) {
+            Ok(path) => path,
+            Err(OutOfMemory) => return Err(Fault::OutOfMemory),
+        };
+        match options.open(rt, path.as_str()) {
+            Ok(file) => return Ok(Beside { path, file }),
+            Err(e) => {
+                if e.kind() != ErrorKind::AlreadyExists {
+                    return Err(Fault::Failed);
+                }
+            }
+        }
     }
+    Err(Fault::Failed)
+}
+
+// The path of the short name of a number in the folder of the named file.
+fn short_path(alloc: Global, name: &str, number: u32) -> Result<String, OutOfMemory> {
+    let short = format!(in alloc; "~{number}")?;
+    let path = Path::new(name).with_file_name(alloc, short.as_str())?;
+    Ok(String::from_str(alloc, path.as_str())?)
+}
+
+// Whether the file took all bytes and keeps them.
+fn write_whole<R: Files>(_rt: &R, file: &mut R::File, bytes: &[u8]) -> bool {
+    file.write_all(bytes).is_ok() && file.sync_all().is_ok()
 }

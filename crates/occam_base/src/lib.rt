@@ -12,9 +12,8 @@ mod mem_sink;
 mod mem_source;
 mod shelf;
 mod standard;
+mod steps;
 mod stream;
-#[cfg(test)]
-mod tests;
 
 pub use code::Code;
 pub use dir_shelf::DirShelf;
@@ -26,4 +25,5 @@ pub use mem_sink::MemSink;
 pub use mem_source::MemSource;
 pub use shelf::{Read, Shelf};
 pub use standard::{StdSink, StdSource};
+pub use steps::Steps;
 pub use stream::{Sink, Source};

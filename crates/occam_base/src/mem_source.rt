@@ -1,5 +1,7 @@
-ghost use Rattle.std.specs.Prelude.{◌≡◌, ◌≤◌, ◌<◌, Some, length, drop};
-ghost use Rattle.occam_base.specs.Streams.{Takes};
+ghost use Rattle.std.specs.Prelude.{◌≡◌, ◌≤◌, ◌<◌, ◌↔◌, Some, length, drop, IfOk, OnOk, OnErr, IsErr};
+ghost use Rattle.occam_base.specs.Counts.{Rose};
+ghost use Rattle.occam_base.specs.Failing.{FailsNow, after_call};
+ghost use Rattle.occam_base.specs.Streams.{SourceOf, Takes};
 
 use crate::countdown::is_failing;
 use crate::{Failed, Source};
@@ -20,7 +22,8 @@ pub struct MemSource {
 impl MemSource {
     /// A source of these bytes. The calls with these numbers, counted from 1, fail.
     pub fn new(_alloc: Global, bytes: Bytes, fail: List<u64>) -> MemSource
-        ensures { drop result.at result.bytes ≡ bytes }
+        ensures left { drop result.at result.bytes ≡ bytes }
+        ensures fail { result.fail ≡ fail }
     {
         MemSource {
             bytes,
@@ -43,7 +46,16 @@ impl Source for MemSource {
 
     ghost faults = { λ s. s.faults };
 
-    fn read(&mut self, buf: &mut [u8]) -> Result<usize, Failed> {
+    /// The contract of sources, and which call fails.
+    fn read(&mut self, buf: &mut [u8]) -> Result<usize, Failed>
+        ensures within { IfOk result (λ n. n ≤ length buf.new) }
+        ensures gives { SourceOf (Some (drop self.old.at self.old.bytes)) (Some (drop self.new.at self.new.bytes)) buf.old buf.new result }
+        ensures failed { OnErr result (Rose self.old.faults self.new.faults) }
+        ensures quiet { OnOk result (self.new.faults ≡ self.old.faults) }
+        ensures never_falls { self.old.faults ≤ self.new.faults }
+        ensures fails { IsErr result ↔ FailsNow self.old.fail }
+        ensures counted { self.new.fail ≡ after_call self.old.fail }
+    {
         if is_failing(&mut self.fail) {
             self.faults = self.faults.saturating_add(1);
             return Err(Failed);

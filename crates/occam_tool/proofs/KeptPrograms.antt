@@ -10,8 +10,8 @@ use Rattle.ir_syntax.specs.declared.item.Module.{Module}
 use Rattle.ir_syntax.specs.Formed.{Formed}
 use Rattle.ir_syntax.specs.FormedBody.{item_name}
 use Rattle.ir_syntax.specs.Straight.{IsStraight}
-use Rattle.interface.specs.Names.{are_unknown}
-use Rattle.interface.specs.Demands.{IsFunctionFor}
+use Rattle.demands.specs.Names.{are_unknown}
+use Rattle.demands.specs.Demands.{IsFunctionFor}
 use Rattle.name_table.specs.Places.{place_among}
 use Rattle.straight_form.specs.Form.{IsStraightForm}
 use Rattle.straight_form.specs.Names.{is_plain_name}

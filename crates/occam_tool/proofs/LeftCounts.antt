@@ -14,7 +14,7 @@ use Rattle.ir_syntax.specs.declared.body.Inst.{Inst}
 use Rattle.ir_syntax.specs.declared.body.Body.{Body}
 use Rattle.ir_syntax.specs.Results.{count}
 use Rattle.ir_syntax.specs.Straight.{IsStraight, IsStraightFunc, straight_body}
-use Rattle.interface.specs.Demands.{IsFunctionFor}
+use Rattle.demands.specs.Demands.{IsFunctionFor}
 use Rattle.straight_form.specs.Counts.{item_count, body_count, instruction_count}
 use Rattle.straight_plan.specs.declared.cut.Ask.{Ask}
 use Rattle.straight_plan.specs.declared.cut.Cut.{Cut}

@@ -21,8 +21,8 @@ use Rattle.ir_syntax.specs.declared.item.Item.TheVariants as item
 use Rattle.ir_syntax.specs.declared.item.Module.{Module}
 use Rattle.ir_syntax.specs.FormedBody.{item_name}
 use Rattle.ir_syntax.specs.Suits.{is_number_of}
-use Rattle.interface.specs.Demands.{IsFunctionFor, IsKnownOf}
-use Rattle.interface.specs.Names.{item_text, items_text, copy_name, are_unknown}
+use Rattle.demands.specs.Demands.{IsFunctionFor, IsKnownOf}
+use Rattle.demands.specs.Names.{item_text, items_text, copy_name, are_unknown}
 use Rattle.straight_plan.specs.declared.cut.Ask.{Ask}
 use Rattle.straight_plan.specs.declared.cut.Cut.{Cut}
 use Rattle.straight_plan.specs.Left.{IsPlan, asks_of, is_entry, left_name, left_item, left_items, left_module}

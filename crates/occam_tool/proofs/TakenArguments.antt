@@ -11,7 +11,7 @@ use Rattle.ir_syntax.specs.declared.item.Item.TheVariants as item
 use Rattle.ir_syntax.specs.declared.item.Module.{Module}
 use Rattle.ir_syntax.specs.Straight.{IsStraight, IsStraightItem, IsStraightFunc, word_param, straight_body}
 use Rattle.ir_syntax.specs.Suits.{is_number_of}
-use Rattle.interface.specs.Demands.{IsFunctionFor, IsKnownOf}
+use Rattle.demands.specs.Demands.{IsFunctionFor, IsKnownOf}
 use Rattle.straight_plan.specs.Asked.{program_items}
 use Rattle.name_table.specs.Places.{place_among}
 use Rattle.ir_writer.specs.Modules.{item_names}

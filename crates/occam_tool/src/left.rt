@@ -1,7 +1,7 @@
 //! The module of a plan, and what is left of it.
 ghost use Rattle.std.specs.Prelude.{◌≡◌, ◌≤◌, ◌∷◌, [], sum_by, IsUtf8, IfOk, length, slice_get};
 ghost use Rattle.ir_syntax.specs.declared.item.Module.{Module as ModuleValue};
-ghost use Rattle.interface.specs.Demands.{IsFunctionFor};
+ghost use Rattle.demands.specs.Demands.{IsFunctionFor};
 ghost use Rattle.straight_plan.specs.Asked.{program_items};
 ghost use Rattle.straight_plan.specs.Left.{IsPlan, size_of};
 ghost use Rattle.ir_syntax.specs.Straight.{IsStraight};

@@ -14,8 +14,6 @@ mod print;
 mod reading;
 mod refusing;
 mod telling;
-#[cfg(test)]
-mod tests;
 mod top;
 mod winnowing;
 mod words;

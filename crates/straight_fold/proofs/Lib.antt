@@ -1,3 +1,4 @@
+pub mod Promised
 pub mod Least
 pub mod Blocks
 pub mod Asking
@@ -11,4 +12,3 @@ pub mod PlanLaws
 pub mod Roots
 pub mod Shared
 pub mod Programs
-pub mod WorkedModule

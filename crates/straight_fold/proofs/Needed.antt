@@ -7,9 +7,9 @@ use Rattle.ir_types.specs.declared.scalar.Known.{Known}
 use Rattle.ir_syntax.specs.declared.symbol.Sym.{Sym}
 use Rattle.ir_syntax.specs.declared.item.Item.{Item}
 use Rattle.ir_syntax.specs.declared.item.Module.{Module}
-use Rattle.interface.specs.declared.demand.Demand.{Demand}
-use Rattle.interface.specs.declared.demand.Demand.TheVariants.{Func, Var}
-use Rattle.interface.specs.Reading.{read_row}
+use Rattle.demands.specs.declared.demand.Demand.{Demand}
+use Rattle.demands.specs.declared.demand.Demand.TheVariants.{Func, Var}
+use Rattle.demands.specs.Reading.{read_row}
 use Rattle.demand_core.specs.Needed.{HoldsRoots, IsClosed}
 use Rattle.demand_core.specs.Needed as rows
 use Rattle.straight_plan.specs.declared.fact.Fact.{Fact}
@@ -22,6 +22,7 @@ use Rattle.straight_fold.specs.Expansion.{needs_at, row_needs}
 use Rattle.straight_fold.proofs.Least.{least-is-one}
 use Rattle.straight_fold.proofs.Blocks.{folded-at}
 use Rattle.straight_fold.proofs.Asking.{needed-rows}
+use Rattle.straight_fold.proofs.Promised.{AreRead}
 use Rattle.straight_fold.proofs.Reading.{IsGood, read-ask, read-function}
 use Rattle.straight_fold.proofs.Suiting.{needs-good, is_good, both, join, function-from, function-to}
 
@@ -72,18 +73,29 @@ pub record IsNeededAsk (items : List Item) (start : Ask) (row : List ℕ) : Type
   pub row_is : row_of ask ≡ row
   pub needed : IsNeeded items start ask
 
-module _ (m : Module) (all : AreStraightItems m.items) where
+-- a needed function is one of the items
+module _ (m : Module) (all : AreStraightItems m.items) (start : Ask) (good : IsGood m.items start) where
+  pub ask-good : (ask : Ask) → IsNeeded m.items start ask → IsGood m.items ask
+  ask-good ask needed =
+      function-from ask.pattern (slice_get m.items ask.place)
+      (needed (is_good m.items) (function-to start.pattern (slice_get m.items start.place) good)
+      (λ one other is n.
+      let one_good = function-from one.pattern (slice_get m.items one.place) is in
+      let other_good = All-contains (IsGood m.items) (needed_by m.items one) other (needs-good m.items one all one_good) (needs-to m.items all one other n) in
+      function-to other.pattern (slice_get m.items other.place) other_good))
+
+module _ (reads : AreRead) (m : Module) (all : AreStraightItems m.items) where
   row_set-of : (set : Ask → Bool) (ask : Ask) → IsGood m.items ask → row_set m set (row_of ask) ≡ set ask
-  row_set-of set ask good = ap (by_read set) (read-ask m all ask good)
+  row_set-of set ask good = ap (by_read set) (read-ask reads m all ask good)
 
   pub row-needs : (ask : Ask) → IsGood m.items ask → row_needs (m ∷ []) (row_of ask) ≡ map row_of (needed_by m.items ask)
-  row-needs ask good = ap (needs_at m.items) (read-ask m all ask good) ∙ sym (needed-rows m.items ask (facts_at m.items ask))
+  row-needs ask good = ap (needs_at m.items) (read-ask reads m all ask good) ∙ sym (needed-rows m.items ask (facts_at m.items ask))
 
   closed-set : (set : Ask → Bool) → ((one other : Ask) → set one ≡ true → Needs m.items one other → set other ≡ true) → IsClosed (row_needs (m ∷ [])) (row_set m set)
   closed-set set closed row is =
       let w = in-set m set row (read_row (m ∷ []) row) refl is in
       let ask : Ask = record { place = w.symbol.item; pattern = w.pattern } in
-      let r = read-function m row w.symbol w.pattern w.read in
+      let r = read-function reads m row w.symbol w.pattern w.read in
       let needs_are : row_needs (m ∷ []) row ≡ map row_of (needed_by m.items ask) = ap (row_needs (m ∷ [])) (sym r.row_is) ∙ row-needs ask r.good in
       subst (All (λ need. row_set m set need ≡ true)) (sym needs_are)
       (All-map (λ need. row_set m set need ≡ true) row_of (needed_by m.items ask)
@@ -101,7 +113,7 @@ module _ (m : Module) (all : AreStraightItems m.items) where
     row-needed row needed =
         let w = in-set m (λ ask. true) row (read_row (m ∷ []) row) refl
         (needed (row_set m (λ ask. true)) (roots-in (λ ask. true) refl) (closed-set (λ ask. true) (λ one other has n. refl))) in
-        let r = read-function m row w.symbol w.pattern w.read in
+        let r = read-function reads m row w.symbol w.pattern w.read in
         record {
           ask = record { place = w.symbol.item; pattern = w.pattern };
           good = r.good;
@@ -109,16 +121,7 @@ module _ (m : Module) (all : AreStraightItems m.items) where
           needed = λ set has closed. sym (ap (by_read set) w.read) ∙ needed (row_set m set) (roots-in set has) (closed-set set closed);
         }
 
-    -- a needed function is one of the items, and its row is needed
-    pub ask-good : (ask : Ask) → IsNeeded m.items start ask → IsGood m.items ask
-    ask-good ask needed =
-        function-from ask.pattern (slice_get m.items ask.place)
-        (needed (is_good m.items) (function-to start.pattern (slice_get m.items start.place) good)
-        (λ one other is n.
-        let one_good = function-from one.pattern (slice_get m.items one.place) is in
-        let other_good = All-contains (IsGood m.items) (needed_by m.items one) other (needs-good m.items one all one_good) (needs-to m.items all one other n) in
-        function-to other.pattern (slice_get m.items other.place) other_good))
-
+    -- the row of a needed function is needed
     pub ask-needed : (ask : Ask) → IsNeeded m.items start ask → rows.IsNeeded (row_needs (m ∷ [])) (row_of start ∷ []) (row_of ask)
     ask-needed ask needed set holds closed =
         (both (is_good m.items ask) (set (row_of ask))

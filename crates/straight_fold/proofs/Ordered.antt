@@ -4,9 +4,9 @@ use Rattle.std.specs.declared.cmp.Ordering.TheVariants.{Less, Equal}
 use Rattle.std.proofs.lemmas.Cmp.{tied_itself}
 use Rattle.std.proofs.lemmas.List.Elements.{All-nil, All-cons, All-head, All-tail, All-weaker, All-contains}
 use Rattle.std.proofs.lemmas.Map.Made.{Contains-tail}
-use Rattle.interface.specs.declared.demand.Demand.{Demand}
-use Rattle.interface.specs.Order.{demand_order}
-use Rattle.interface.specs.TotalOrder.{demand_total}
+use Rattle.demands.specs.declared.demand.Demand.{Demand}
+use Rattle.demands.specs.Order.{demand_order}
+use Rattle.demands.specs.TotalOrder.{demand_total}
 
 pub not-below-itself : (a : Demand) → demand_order a a ≡ Less → ⊥
 not-below-itself a below =

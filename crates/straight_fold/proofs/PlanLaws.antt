@@ -13,9 +13,8 @@ use Rattle.ir_syntax.specs.declared.body.Inst.TheVariants as inst
 use Rattle.ir_syntax.specs.declared.item.Item.{Item}
 use Rattle.ir_syntax.specs.declared.item.Module.{Module}
 use Rattle.ir_syntax.specs.Straight.{IsStraight}
-use Rattle.interface.specs.Names.{are_unknown}
-use Rattle.interface.specs.Demands.{IsFunctionFor}
-use Rattle.fixed_point.proofs.Inside.{length-inside, sum_by-inside}
+use Rattle.demands.specs.Names.{are_unknown}
+use Rattle.demands.specs.Demands.{IsFunctionFor}
 use Rattle.straight_plan.specs.declared.fact.Fact.{Fact}
 use Rattle.straight_plan.specs.declared.cut.Ask.{Ask}
 use Rattle.straight_plan.specs.declared.cut.Cut.{Cut}
@@ -27,8 +26,8 @@ use Rattle.straight_fold.proofs.Least.{least-is-one}
 use Rattle.straight_fold.proofs.Asking.{call_asks, needs-are}
 use Rattle.straight_fold.proofs.Needed.{Contains-map, ask-good}
 use Rattle.straight_fold.proofs.Ordered.{ordered-same, pairs-rise}
-use Rattle.interface.specs.Order.{demand_order}
-use Rattle.interface.proofs.SameDemand.{equal-is-same}
+use Rattle.demands.specs.Order.{demand_order}
+use Rattle.straight_fold.proofs.Promised.{FewStandThere, LittleStandsThere, TiesItself}
 use Rattle.straight_fold.proofs.Reading.{demand-same}
 use Rattle.straight_fold.proofs.Pieces.{straight-items}
 use Rattle.straight_fold.proofs.Plans.{image-of, pairs-back}
@@ -76,16 +75,16 @@ plans-same items start one other is is_other =
 
 -- ---- limits
 
-few-needed : (items : List Item) (start : Ask) (cuts : List Cut) → ((ask : Ask) → Contains (asks_of cuts) ask ↔ IsNeeded items start ask) → length cuts ≤ 65536 → AreTooMany items start → ⊥
-few-needed items start cuts exact few many =
-    let inside = length-inside many.asks (asks_of cuts) many.distinct (λ k d within. (exact (get_or many.asks k d)).1 (many.needed k d within)) in
+few-needed : FewStandThere Ask → (items : List Item) (start : Ask) (cuts : List Cut) → ((ask : Ask) → Contains (asks_of cuts) ask ↔ IsNeeded items start ask) → length cuts ≤ 65536 → AreTooMany items start → ⊥
+few-needed inside_few items start cuts exact few many =
+    let inside = inside_few many.asks (asks_of cuts) many.distinct (λ k d within. (exact (get_or many.asks k d)).1 (many.needed k d within)) in
     omega (arith, inside, length-map cuts (λ cut. cut.ask), many.many)
 
-pub not-many : (items : List Item) (start : Ask) (plan : List Cut) → IsPlanned items start plan → AreTooMany items start → ⊥
-not-many items start plan is many = few-needed items start plan is.least.exact is.few many
+pub not-many : FewStandThere Ask → (items : List Item) (start : Ask) (plan : List Cut) → IsPlanned items start plan → AreTooMany items start → ⊥
+not-many inside_few items start plan is many = few-needed inside_few items start plan is.least.exact is.few many
 
-pub not-both : (items : List Item) (start : Ask) → IsTooMuch items start → AreTooMany items start → ⊥
-not-both items start much many = few-needed items start much.cuts much.exact much.few many
+pub not-both : FewStandThere Ask → (items : List Item) (start : Ask) → IsTooMuch items start → AreTooMany items start → ⊥
+not-both inside_few items start much many = few-needed inside_few items start much.cuts much.exact much.few many
 
 -- a cut of what is needed stands in the least plan
 cut-there : (items : List Item) (start : Ask) (plan : List Cut) (cut : Cut) → IsLeastPlan items start plan → IsFolded items cut → IsNeeded items start cut.ask → Contains plan cut
@@ -94,14 +93,14 @@ cut-there items start plan cut is folded needed =
     let at = image-of (λ cut. cut.ask) plan cut.ask ((is.exact cut.ask).1 needed) in
     subst (Contains plan) (cut-same items at.from cut at.image (All-contains (IsFolded items) plan at.from is.folded at.there) folded) at.there
 
-pub not-much : (items : List Item) (start : Ask) (plan : List Cut) → IsPlanned items start plan → IsTooMuch items start → ⊥
+pub not-much : LittleStandsThere Cut → (items : List Item) (start : Ask) (plan : List Cut) → IsPlanned items start plan → IsTooMuch items start → ⊥
 unfolding IsFolded
-not-much items start plan is much =
+not-much inside_little items start plan is much =
     let apart = pairs-back (λ cut. cut.ask) (λ a b. a ≢ b) much.cuts much.distinct in
     let there : All (Contains plan) much.cuts =
     λ k d within. let cut = get_or much.cuts k d in
     cut-there items start plan cut is.least (much.folded k d within) ((much.exact cut.ask).0 (Contains-map (λ cut. cut.ask) much.cuts cut (Contains-get_or much.cuts k d within))) in
-    let inside = sum_by-inside (size_of items) much.cuts plan (λ i j d before within e. apart i j d before within (ap (λ (cut : Cut). cut.ask) e)) there in
+    let inside = inside_little (size_of items) much.cuts plan (λ i j d before within e. apart i j d before within (ap (λ (cut : Cut). cut.ask) e)) there in
     omega (arith, inside, is.short, much.much)
 
 -- ---- what isn't copied is asked for with nothing known
@@ -200,8 +199,8 @@ order-is_eq Less e = absurd (cc)
 order-is_eq Equal e = refl
 order-is_eq Greater e = absurd (cc)
 
-itself : (start : Ask) → start_or_elsewhere start start ≡ true
-itself start = ap (λ (o : Ordering). is_eq o || not (start.place == start.place)) ((equal-is-same (demand_of start) (demand_of start)).1 refl)
+itself : TiesItself → (start : Ask) → start_or_elsewhere start start ≡ true
+itself ties start = ap (λ (o : Ordering). is_eq o || not (start.place == start.place)) ((ties (demand_of start) (demand_of start)).1 refl)
 
 elsewhere : (start ask : Ask) → (ask.place == start.place) ≡ false → start_or_elsewhere start ask ≡ true
 elsewhere start ask e = either (is_eq (demand_order (demand_of ask) (demand_of start))) (ask.place == start.place) e
@@ -210,11 +209,11 @@ elsewhere start ask e = either (is_eq (demand_order (demand_of ask) (demand_of s
     either true b e = refl
     either false b e = ap not e
 
-only-start : (start ask : Ask) → start_or_elsewhere start ask ≡ true → ask.place ≡ start.place → ask ≡ start
-only-start start ask e same = by (is_eq (demand_order (demand_of ask) (demand_of start))) refl
+only-start : TiesItself → (start ask : Ask) → start_or_elsewhere start ask ≡ true → ask.place ≡ start.place → ask ≡ start
+only-start ties start ask e same = by (is_eq (demand_order (demand_of ask) (demand_of start))) refl
   where
     by : (b : Bool) → is_eq (demand_order (demand_of ask) (demand_of start)) ≡ b → ask ≡ start
-    by true h = demand-same ask start ((equal-is-same (demand_of ask) (demand_of start)).0 (order-is_eq (demand_order (demand_of ask) (demand_of start)) h))
+    by true h = demand-same ask start ((ties (demand_of ask) (demand_of start)).0 (order-is_eq (demand_order (demand_of ask) (demand_of start)) h))
     by false h =
         let here : (ask.place == start.place) ≡ true = eq-eqb ask.place start.place same in
         let clash : (false || not true) ≡ true = (λ i. sym h i || not (sym here i)) ∙ e in
@@ -228,9 +227,9 @@ at-ask cuts k d within = Contains-map (λ cut. cut.ask) cuts (get_or cuts k d) (
 needed : (items : List Item) (start : Ask) (plan : List Cut) → IsLeastPlan items start plan → (k : ℕ) (d : Cut) → k < length plan → IsNeeded items start (get_or plan k d).ask
 needed items start plan least k d within = (least.exact (get_or plan k d).ask).0 (at-ask plan k d within)
 
-pub is-plan : (m : Module) (start : Ask) (plan : List Cut) → IsStraight m → IsFunctionFor start.pattern (slice_get m.items start.place)
+pub is-plan : TiesItself → (m : Module) (start : Ask) (plan : List Cut) → IsStraight m → IsFunctionFor start.pattern (slice_get m.items start.place)
     → (is_copied m.items start.place ≡ false → are_unknown start.pattern ≡ true) → (are_unknown start.pattern ≡ false → is_named m.items start.place ≡ false) → IsLeastPlan m.items start plan → IsPlan m.items start plan
-is-plan m start plan straight good copied unnamed least = record {
+is-plan ties m start plan straight good copied unnamed least = record {
   has_start = (least.exact start).1 (λ set has closed. has);
   folded = λ k d within. (least.folded k d within).closed;
   has_needs = λ k d within j e inside.
@@ -246,8 +245,8 @@ is-plan m start plan straight good copied unnamed least = record {
       (needed m.items start plan least k d within (copied_or_unknown m.items) (or-from (is_copied m.items start.place) (are_unknown start.pattern) copied) (λ one other is n. needs-copied m.items one other n));
   alone = λ known k d within same.
       let ask = (get_or plan k d).ask in
-      only-start start ask
-      (needed m.items start plan least k d within (start_or_elsewhere start) (itself start) (λ one other is n. elsewhere start other (needs-unnamed m.items start.place (unnamed known) one other n)))
+      only-start ties start ask
+      (needed m.items start plan least k d within (start_or_elsewhere start) (itself ties start) (λ one other is n. elsewhere start other (needs-unnamed m.items start.place (unnamed known) one other n)))
       same;
   ordered = least.ordered;
 }

@@ -13,17 +13,14 @@ use Rattle.std.proofs.lemmas.List.Sorted.{All-permutation, IsPermutation-map, Is
 use Rattle.std.proofs.lemmas.List.Sums.{sum_by-cons}
 use Rattle.ir_syntax.specs.declared.item.Item.{Item}
 use Rattle.ir_syntax.specs.declared.item.Module.{Module}
-use Rattle.interface.specs.declared.demand.Demand.{Demand}
-use Rattle.interface.specs.declared.demand.Demand.TheVariants.{Func, Var}
-use Rattle.interface.specs.Order.{demand_order}
-use Rattle.interface.specs.TotalOrder.{demand_total}
-use Rattle.interface.specs.Rows.{words_of}
-use Rattle.interface.specs.Reading.{read_row}
-use Rattle.interface.proofs.SameDemand.{equal-is-same}
+use Rattle.demands.specs.declared.demand.Demand.{Demand}
+use Rattle.demands.specs.declared.demand.Demand.TheVariants.{Func, Var}
+use Rattle.demands.specs.Order.{demand_order}
+use Rattle.demands.specs.TotalOrder.{demand_total}
+use Rattle.demands.specs.Rows.{words_of}
+use Rattle.demands.specs.Reading.{read_row}
 use Rattle.demand_core.specs.Needed as by_row
 use Rattle.fixed_point.specs.Needs.{AreAllNeeded, NeedsMoreThan, WeighsMoreThan}
-use Rattle.fixed_point.proofs.Answered.{sum_by-map}
-use Rattle.fixed_point.proofs.Searched.{all_permuted}
 use Rattle.straight_plan.specs.declared.cut.Ask.{Ask}
 use Rattle.straight_plan.specs.declared.cut.Cut.{Cut}
 use Rattle.straight_plan.specs.Folding.{IsLeastClosed}
@@ -35,6 +32,7 @@ use Rattle.straight_fold.specs.Items.{AreStraightItems}
 use Rattle.straight_fold.specs.Calls.{row_of}
 use Rattle.straight_fold.specs.Expansion.{IsPieceOf, cut_of, found_at, row_needs, row_size, size_at}
 use Rattle.straight_fold.proofs.Blocks.{folded-at}
+use Rattle.straight_fold.proofs.Promised.{AreRead, TiesItself, AreInAnyOrder}
 use Rattle.straight_fold.proofs.Reading.{IsGood, read-ask, ask-same}
 use Rattle.straight_fold.proofs.Needed.{Contains-map, IsNeededAsk, ask-good, ask-needed, facts_at, row-needed}
 use Rattle.straight_fold.proofs.Ordered.{rise-from, rises-pairs}
@@ -65,6 +63,10 @@ image-of f (x ∷ xs) y at =
       image = sym (get_or-map f (x ∷ xs) k x y within) ∙ at.2;
     }
 
+sum_by-map : {X Y : Type 0} (f : X → Y) (size : Y → ℕ) (xs : List X) → sum_by size (map f xs) ≡ sum_by (λ x. size (f x)) xs
+sum_by-map f size [] = refl
+sum_by-map f size (x ∷ xs) = sum_by-cons size (f x) (map f xs) ∙ ap (λ (n : ℕ). size (f x) + n) (sum_by-map f size xs) ∙ sym (sum_by-cons (λ y. size (f y)) x xs)
+
 sums-same : {X : Type 0} (f g : X → ℕ) (xs : List X) → All (λ x. f x ≡ g x) xs → sum_by f xs ≡ sum_by g xs
 sums-same f g [] all = refl
 sums-same f g (x ∷ xs) all =
@@ -79,7 +81,7 @@ asks-back : (items : List Item) (asks : List Ask) → asks_of (map (cut_for item
 asks-back items [] = refl
 asks-back items (ask ∷ asks) = ap (λ (others : List Ask). ask ∷ others) (asks-back items asks)
 
-module _ (m : Module) (all : AreStraightItems m.items) (start : Ask) (start_good : IsGood m.items start) where
+module _ (reads : AreRead) (ties : TiesItself) (any_order : AreInAnyOrder) (m : Module) (all : AreStraightItems m.items) (start : Ask) (start_good : IsGood m.items start) where
   -- functions whose rows are the needed ones
   pub record AreFunctions (rows : List (List ℕ)) (asks : List Ask) : Type 0 where
     pub needed : AreAllNeeded (row_needs (m ∷ [])) (row_of start ∷ []) rows
@@ -87,7 +89,7 @@ module _ (m : Module) (all : AreStraightItems m.items) (start : Ask) (start_good
     pub good : All (IsGood m.items) asks
 
   pub rows_all : (rows : List (List ℕ)) (asks : List Ask) → AreFunctions rows asks → AreAllNeeded (row_needs (m ∷ [])) (row_of start ∷ []) (map row_of asks)
-  rows_all rows asks are = all_permuted (row_needs (m ∷ [])) (row_of start ∷ []) rows (map row_of asks) are.rows_are are.needed
+  rows_all rows asks are = any_order (row_needs (m ∷ [])) (row_of start ∷ []) rows (map row_of asks) are.rows_are are.needed
 
   pub just-needed : (rows : List (List ℕ)) (asks : List Ask) → AreFunctions rows asks → (ask : Ask) → Contains asks ask ↔ IsNeeded m.items start ask
   just-needed rows asks are ask =
@@ -95,11 +97,11 @@ module _ (m : Module) (all : AreStraightItems m.items) (start : Ask) (start_good
         (λ there.
             let one_good = All-contains (IsGood m.items) asks ask are.good there in
             let one_needed = All-contains (by_row.IsNeeded (row_needs (m ∷ [])) (row_of start ∷ [])) (map row_of asks) (row_of ask) whole.needed (Contains-map row_of asks ask there) in
-            let n = row-needed m all start start_good (row_of ask) one_needed in
-            subst (IsNeeded m.items start) (ask-same m all n.ask ask n.good one_good n.row_is) n.needed),
+            let n = row-needed reads m all start start_good (row_of ask) one_needed in
+            subst (IsNeeded m.items start) (ask-same reads m all n.ask ask n.good one_good n.row_is) n.needed),
         (λ needed.
-            let at = image-of row_of asks (row_of ask) (whole.complete (row_of ask) (ask-needed m all start start_good ask needed)) in
-            let same = ask-same m all at.from ask (All-contains (IsGood m.items) asks at.from are.good at.there) (ask-good m all start start_good ask needed) at.image in
+            let at = image-of row_of asks (row_of ask) (whole.complete (row_of ask) (ask-needed reads m all start start_good ask needed)) in
+            let same = ask-same reads m all at.from ask (All-contains (IsGood m.items) asks at.from are.good at.there) (ask-good m all start start_good ask needed) at.image in
             subst (Contains asks) same at.there),
       )
 
@@ -117,7 +119,7 @@ module _ (m : Module) (all : AreStraightItems m.items) (start : Ask) (start_good
   plan-size rows asks are =
       sum_by-map (cut_for m.items) (size_of m.items) asks
       ∙ sums-same (λ ask. size_of m.items (cut_for m.items ask)) (λ ask. row_size (m ∷ []) (row_of ask)) asks
-      (λ k d within. sym (ap (size_at m.items) (read-ask m all (get_or asks k d) (are.good k d within))))
+      (λ k d within. sym (ap (size_at m.items) (read-ask reads m all (get_or asks k d) (are.good k d within))))
       ∙ sym (sum_by-map row_of (row_size (m ∷ [])) asks)
       ∙ sum_by-IsPermutation (row_size (m ∷ [])) rows (map row_of asks) are.rows_are
 
@@ -133,8 +135,8 @@ module _ (m : Module) (all : AreStraightItems m.items) (start : Ask) (start_good
 
   ask-at : (row : List ℕ) → by_row.IsNeeded (row_needs (m ∷ [])) (row_of start ∷ []) row → IsNeededAsk m.items start row × IsGood m.items (ask_at row) × (row_of (ask_at row) ≡ row) × IsNeeded m.items start (ask_at row)
   ask-at row needed =
-      let n = row-needed m all start start_good row needed in
-      let same : ask_at row ≡ n.ask = ap (λ (r : List ℕ). ask_at r) (sym n.row_is) ∙ ap ask_in (read-ask m all n.ask n.good) in
+      let n = row-needed reads m all start start_good row needed in
+      let same : ask_at row ≡ n.ask = ap (λ (r : List ℕ). ask_at r) (sym n.row_is) ∙ ap ask_in (read-ask reads m all n.ask n.good) in
       (n, subst (IsGood m.items) (sym same) n.good, ap row_of same ∙ n.row_is, subst (IsNeeded m.items start) (sym same) n.needed)
 
   map-back : (rows : List (List ℕ)) → All (by_row.IsNeeded (row_needs (m ∷ [])) (row_of start ∷ [])) rows → map row_of (map ask_at rows) ≡ rows
@@ -211,8 +213,8 @@ module _ (m : Module) (all : AreStraightItems m.items) (start : Ask) (start_good
   found-in : (pairs : List (List ℕ × Piece)) → All IsExpanded pairs → All IsNeededPair pairs → AreFound pairs
   found-in [] pieces needed = record { sound = All-nil IsSound; rows_are = refl }
   found-in (pair ∷ pairs) pieces needed =
-      let n = row-needed m all start start_good pair.0 (All-head IsNeededPair pair pairs needed) in
-      let read : read_row (m ∷ []) pair.0 ≡ Some (demand_of n.ask) = ap (read_row (m ∷ [])) (sym n.row_is) ∙ read-ask m all n.ask n.good in
+      let n = row-needed reads m all start start_good pair.0 (All-head IsNeededPair pair pairs needed) in
+      let read : read_row (m ∷ []) pair.0 ≡ Some (demand_of n.ask) = ap (read_row (m ∷ [])) (sym n.row_is) ∙ read-ask reads m all n.ask n.good in
       let piece = All-head IsExpanded pair pairs pieces in
       let is : pair.1.found ≡ Some (found_for n.ask) = piece.found ∙ ap (found_at m.items) read in
       let rest = found-in pairs (All-tail IsExpanded pair pairs pieces) (All-tail IsNeededPair pair pairs needed) in
@@ -246,7 +248,7 @@ module _ (m : Module) (all : AreStraightItems m.items) (start : Ask) (start_good
     where
       by : (o : Ordering) → demand_order b a ≡ o → demand_order a b ≡ Less
       by Less is = let clash : false ≡ true = sym up ∙ ap is_lt is in absurd (cc)
-      by Equal is = absurd (differ (sym ((equal-is-same b a).0 is)))
+      by Equal is = absurd (differ (sym ((ties b a).0 is)))
       by Greater is = demand_total.antisymm a b ∙ ap ordering_reverse is
 
   abbrev demand_in : Found → Demand
@@ -290,7 +292,7 @@ module _ (m : Module) (all : AreStraightItems m.items) (start : Ask) (start_good
 
     rise : AllPairs (λ a b. demand_order (demand_of a) (demand_of b) ≡ Less) (map ask_of sorted)
     rise =
-        let all_rows = all_permuted (row_needs (m ∷ [])) (row_of start ∷ []) (map pair_row pairs) (map found_row sorted) rows-moved needed in
+        let all_rows = any_order (row_needs (m ∷ [])) (row_of start ∷ []) (map pair_row pairs) (map found_row sorted) rows-moved needed in
         let R : Found → Found → Type 0 = λ a b. demand_order a.demand b.demand ≡ Less in
         pairs-back found_for R (map ask_of sorted) (subst (AllPairs R) (restored sorted sound) (found-rise sorted all_rows.distinct up))
 

@@ -1,5 +1,5 @@
 -- Rows of a program of one module, read again.
-use Rattle.std.proofs.Common.{◌≡◌, ℕ, ◌/◌, ◌%◌, ◌^◌, ◌<◌, ◌≤◌, List, [], ◌∷◌, Option, None, Some, length, refl, ap, sym, subst, ◌∙◌, arith}
+use Rattle.std.proofs.Common.{◌≡◌, ℕ, ◌^◌, ◌<◌, ◌≤◌, List, [], ◌∷◌, Option, None, Some, length, refl, ap, sym, subst, ◌∙◌, arith}
 use Rattle.std.specs.Prelude.{slice_get, option_and_then}
 use Rattle.std.specs.List.{AllZip}
 use Rattle.std.proofs.lemmas.List.{length-map}
@@ -10,36 +10,22 @@ use Rattle.ir_syntax.specs.declared.item.Param.{Param}
 use Rattle.ir_syntax.specs.declared.item.Item.{Item}
 use Rattle.ir_syntax.specs.declared.item.Item.TheVariants as item
 use Rattle.ir_syntax.specs.declared.item.Module.{Module}
-use Rattle.interface.specs.declared.demand.Demand.{Demand}
-use Rattle.interface.specs.declared.demand.Demand.TheVariants.{Func, Var}
-use Rattle.interface.specs.Order.{number_of}
-use Rattle.interface.specs.Rows.{words_of}
-use Rattle.interface.specs.Demands.{IsKnownOf, IsFunctionFor, IsDemand, item_at}
-use Rattle.interface.specs.Reading.{read_symbol, read_at, read_row}
-use Rattle.interface.proofs.DemandReading.{demand-sound, demand-complete}
+use Rattle.demands.specs.declared.demand.Demand.{Demand}
+use Rattle.demands.specs.declared.demand.Demand.TheVariants.{Func}
+use Rattle.demands.specs.Order.{number_of}
+use Rattle.demands.specs.Rows.{words_of}
+use Rattle.demands.specs.Demands.{IsKnownOf, IsFunctionFor, item_at}
+use Rattle.demands.specs.Reading.{read_row}
 use Rattle.straight_plan.specs.declared.cut.Ask.{Ask}
 use Rattle.straight_plan.specs.Asked.{demand_of}
 use Rattle.straight_fold.specs.Items.{AreStraightItems}
 use Rattle.straight_fold.specs.Calls.{row_of}
 use Rattle.straight_fold.proofs.Blocks.{func-at}
+use Rattle.straight_fold.proofs.Promised.{AreRead}
 
 -- a function of the items
 abbrev pub IsGood : List Item → Ask → Type 0
 IsGood items ask = IsFunctionFor ask.pattern (slice_get items ask.place)
-
-no-row : (d : Demand) → words_of d ≡ [] → ⊥
-no-row (Func symbol pattern) e = cc
-no-row (Var symbol) e = cc
-
-no-short-row : (d : Demand) (place : ℕ) → words_of d ≡ place ∷ [] → ⊥
-no-short-row (Func symbol pattern) place e = cc
-no-short-row (Var symbol) place e = cc
-
--- a demand of the program is read from its row
-pub read-demand : (modules : List Module) (row : List ℕ) (d : Demand) → length row ≤ 34 → IsDemand modules d → words_of d ≡ row → read_row modules row ≡ Some d
-read-demand modules [] d few is e = absurd (no-row d e)
-read-demand modules (place ∷ []) d few is e = absurd (no-short-row d place e)
-read-demand modules (place ∷ bits ∷ words) d few is e = demand-complete modules place bits words d (omega (arith, few)) is e
 
 few-items : (items : List Item) (pattern : List Known) (place : ℕ) (found : Option Item) → AreStraightItems items → slice_get items place ≡ found → IsFunctionFor pattern found → (length pattern ≤ 32) × (place < 2 ^ 32)
 few-items items pattern place None all e is = absurd is
@@ -60,39 +46,16 @@ short-place items place pattern all good = few-items items pattern place (slice_
 
 -- ---- one module
 
-at-item : (symbol : Sym) (kind bits : ℕ) (words : List ℕ) (d : Demand) (found : Option Item) → read_at symbol kind bits words found ≡ Some d → (i : Item) × (found ≡ Some i)
-at-item symbol kind bits words d None e = absurd (none-some d e)
-at-item symbol kind bits words d (Some i) e = (i, refl)
-
 some-module : (symbol : Sym) (found : Option Module) (i : Item) → option_and_then (λ m. slice_get m.items symbol.item) found ≡ Some i → (m : Module) × (found ≡ Some m)
 some-module symbol None i e = absurd (none-some i e)
 some-module symbol (Some m) i e = (m, refl)
 
-module _ (m : Module) where
+module _ (reads : AreRead) (m : Module) where
   first-module : (symbol : Sym) (i : Item) → item_at (m ∷ []) symbol ≡ Some i → symbol.module ≡ 0
   first-module symbol i e =
       let found = some-module symbol (slice_get (m ∷ []) symbol.module) i e in
       let within : symbol.module < 1 = slice_get_within (m ∷ []) symbol.module found.0 found.1 in
       omega (arith, within)
-
-  low-place : (place bits : ℕ) (words : List ℕ) (d : Demand) → read_at (read_symbol place) (place % 2) bits words (item_at (m ∷ []) (read_symbol place)) ≡ Some d → place < 2 ^ 64
-  low-place place bits words d e =
-      let found = at-item (read_symbol place) (place % 2) bits words d (item_at (m ∷ []) (read_symbol place)) e in
-      let first : place / 2 ^ 33 ≡ 0 = first-module (read_symbol place) found.0 found.1 in
-      omega (arith, first)
-
-  -- what is read is a demand of the program with this row
-  pub read-sound : (row : List ℕ) (d : Demand) → read_row (m ∷ []) row ≡ Some d → IsDemand (m ∷ []) d × (words_of d ≡ row)
-  read-sound [] d e = absurd (none-some d e)
-  read-sound (place ∷ []) d e = absurd (none-some d e)
-  read-sound (place ∷ bits ∷ words) d e = demand-sound (m ∷ []) place bits words d (low-place place bits words d e) e
-
-  pub read-none : (row : List ℕ) → ((d : Demand) → IsDemand (m ∷ []) d → words_of d ≡ row → ⊥) → read_row (m ∷ []) row ≡ None
-  read-none row missed = by (read_row (m ∷ []) row) refl
-    where
-      by : (o : Option Demand) → read_row (m ∷ []) row ≡ o → o ≡ None
-      by None e = refl
-      by (Some d) e = let is = read-sound row d e in absurd (missed d is.0 is.1)
 
   -- ---- functions
 
@@ -110,7 +73,7 @@ module _ (m : Module) where
 
   pub read-function : (row : List ℕ) (symbol : Sym) (pattern : List Known) → read_row (m ∷ []) row ≡ Some (Func symbol pattern) → IsRead row symbol pattern
   read-function row symbol pattern e =
-      let is = read-sound row (Func symbol pattern) e in
+      let is = reads.found (m ∷ []) row (Func symbol pattern) e in
       let i = some-item pattern (item_at (m ∷ []) symbol) is.0.defined in
       let zero_module = first-module symbol i.0 i.1 in
       let same : demand_of (record { place = symbol.item; pattern = pattern }) ≡ Func symbol pattern =
@@ -125,18 +88,8 @@ module _ (m : Module) where
   pub read-ask : AreStraightItems m.items → (ask : Ask) → IsGood m.items ask → read_row (m ∷ []) (row_of ask) ≡ Some (demand_of ask)
   read-ask all ask good =
       let few = short-place m.items ask.place ask.pattern all good in
-      read-demand (m ∷ []) (row_of ask) (demand_of ask) (omega (arith, few.0, length-map ask.pattern number_of))
+      reads.all (m ∷ []) (row_of ask) (demand_of ask) (omega (arith, few.0, length-map ask.pattern number_of))
       (record { short = record { short_module = omega arith; short_item = few.1 }; defined = good }) refl
-
-  -- and so is each function that a row was found to have
-  pub read-found : AreStraightItems m.items → (row : List ℕ) (symbol : Sym) (pattern : List Known) → IsDemand (m ∷ []) (Func symbol pattern) → words_of (Func symbol pattern) ≡ row → read_row (m ∷ []) row ≡ Some (Func symbol pattern)
-  read-found all row symbol pattern is e =
-      let i = some-item pattern (item_at (m ∷ []) symbol) is.defined in
-      let zero_module = first-module symbol i.0 i.1 in
-      let same : demand_of (record { place = symbol.item; pattern = pattern }) ≡ Func symbol pattern =
-      λ l. Func (record { «module» = sym zero_module l; item = symbol.item }) pattern in
-      let good : IsGood m.items (record { place = symbol.item; pattern = pattern }) = subst (IsFunctionFor pattern) (at-first symbol zero_module) is.defined in
-      ap (read_row (m ∷ [])) (sym e ∙ sym (ap words_of same)) ∙ read-ask all (record { place = symbol.item; pattern = pattern }) good ∙ ap Some same
 
 pub demand-same : (a b : Ask) → demand_of a ≡ demand_of b → a ≡ b
 demand-same a b e =
@@ -154,6 +107,6 @@ some-same : (d e : Demand) → Some d ≡ Some e → d ≡ e
 some-same d e h = cc
 
 -- two functions with one row are one
-pub ask-same : (m : Module) → AreStraightItems m.items → (a b : Ask) → IsGood m.items a → IsGood m.items b → row_of a ≡ row_of b → a ≡ b
-ask-same m all a b one other e =
-    demand-same a b (some-same (demand_of a) (demand_of b) (sym (read-ask m all a one) ∙ ap (read_row (m ∷ [])) e ∙ read-ask m all b other))
+pub ask-same : AreRead → (m : Module) → AreStraightItems m.items → (a b : Ask) → IsGood m.items a → IsGood m.items b → row_of a ≡ row_of b → a ≡ b
+ask-same reads m all a b one other e =
+    demand-same a b (some-same (demand_of a) (demand_of b) (sym (read-ask reads m all a one) ∙ ap (read_row (m ∷ [])) e ∙ read-ask reads m all b other))

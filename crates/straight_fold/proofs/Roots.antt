@@ -6,8 +6,8 @@ use Rattle.ir_types.specs.declared.scalar.Known.{Known}
 use Rattle.ir_syntax.specs.declared.item.Item.{Item}
 use Rattle.ir_syntax.specs.declared.item.Item.TheVariants as item
 use Rattle.ir_syntax.specs.declared.item.Param.{Param}
-use Rattle.interface.specs.Names.{are_unknown}
-use Rattle.interface.specs.Demands.{IsFunctionFor, IsKnownOf}
+use Rattle.demands.specs.Names.{are_unknown}
+use Rattle.demands.specs.Demands.{IsFunctionFor, IsKnownOf}
 use Rattle.straight_plan.specs.declared.cut.Ask.{Ask}
 use Rattle.straight_plan.specs.Asked.{forgotten, is_copied, is_named, root}
 use Rattle.straight_fold.proofs.Reading.{IsGood}

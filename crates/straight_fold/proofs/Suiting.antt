@@ -20,7 +20,7 @@ use Rattle.ir_syntax.specs.declared.item.Item.{Item}
 use Rattle.ir_syntax.specs.declared.item.Item.TheVariants as item
 use Rattle.ir_syntax.specs.Suits.{is_number_of, is_pointer}
 use Rattle.ir_syntax.specs.Straight.{IsWordOperand, IsWordArg, IsStraightInst, AreStraight, word_param}
-use Rattle.interface.specs.Demands.{IsKnownOf, IsFunctionFor}
+use Rattle.demands.specs.Demands.{IsKnownOf, IsFunctionFor}
 use Rattle.straight_plan.specs.declared.fact.Fact.{Fact}
 use Rattle.straight_plan.specs.declared.fact.Fact.TheVariants.{Unreached, One, Varying}
 use Rattle.straight_plan.specs.declared.cut.Ask.{Ask}

@@ -6,7 +6,7 @@ use Rattle.ir_syntax.specs.declared.body.Arg.{Arg}
 use Rattle.ir_syntax.specs.declared.body.Inst.{Inst}
 use Rattle.ir_syntax.specs.declared.body.Inst.TheVariants as inst
 use Rattle.ir_syntax.specs.declared.item.Item.{Item}
-use Rattle.interface.specs.Rows.{words_of}
+use Rattle.demands.specs.Rows.{words_of}
 use Rattle.straight_plan.specs.declared.fact.Fact.{Fact}
 use Rattle.straight_plan.specs.declared.fact.Fact.TheVariants.{Unreached, One, Varying}
 use Rattle.straight_plan.specs.declared.cut.Ask.{Ask}

@@ -2,9 +2,9 @@
 use Rattle.std.specs.Prelude.{◌≡◌, ℕ, suc, List, [], length, slice_get, Option, None, Some}
 use Rattle.ir_syntax.specs.declared.item.Item.{Item}
 use Rattle.ir_syntax.specs.declared.item.Module.{Module}
-use Rattle.interface.specs.declared.demand.Demand.{Demand}
-use Rattle.interface.specs.declared.demand.Demand.TheVariants.{Func, Var}
-use Rattle.interface.specs.Reading.{read_row}
+use Rattle.demands.specs.declared.demand.Demand.{Demand}
+use Rattle.demands.specs.declared.demand.Demand.TheVariants.{Func, Var}
+use Rattle.demands.specs.Reading.{read_row}
 use Rattle.straight_plan.specs.declared.fact.Fact.{Fact}
 use Rattle.straight_plan.specs.declared.cut.Cut.{Cut}
 use Rattle.straight_plan.specs.Residual.{residual}

@@ -2,4 +2,3 @@ pub mod Calls
 pub mod Expansion
 pub mod Facts
 pub mod Items
-pub mod Worked

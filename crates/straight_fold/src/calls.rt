@@ -8,7 +8,7 @@ ghost use Rattle.straight_fold.specs.Calls.{IsShortCall, arg_value, asked_rows, 
 use crate::facts::operand_fact;
 use crate::items::{is_copied, written_callee};
 use demand_core::Row;
-use interface::{Demand, Pattern, row_of};
+use demands::{Demand, Pattern, row_of};
 use ir_syntax::{Arg, Inst, Item, Sym};
 use ir_types::{Known, List, OutOfMemory};
 use std::alloc::Global;

@@ -2,8 +2,8 @@
 ghost use Rattle.std.specs.Prelude.{◌≡◌, IfOk, reverse, slice_get};
 ghost use Rattle.std.specs.List.{filter_map};
 ghost use Rattle.std.specs.List.Sorted.{IsPermutation, IsSortedByKey};
-ghost use Rattle.interface.specs.Demands.{IsFunctionFor};
-ghost use Rattle.interface.specs.Order.{demand_order};
+ghost use Rattle.demands.specs.Demands.{IsFunctionFor};
+ghost use Rattle.demands.specs.Order.{demand_order};
 ghost use Rattle.straight_plan.specs.Asked.{program_items, root};
 ghost use Rattle.straight_plan.specs.Left.{AreTooMany, IsPlanned, IsTooMuch};
 ghost use Rattle.straight_fold.specs.Expansion.{cut_of};
@@ -14,8 +14,8 @@ use crate::items::items_of;
 use crate::piece::{Found, Piece};
 use crate::root::root_in;
 use demand_core::Row;
-use fixed_point::{FixFault, least};
-use interface::{Demand, demand_cmp};
+use demands::{Demand, demand_cmp, demands_are_ordered, rows_are_read};
+use fixed_point::{FixFault, least, rows_are_needed_in_any_order};
 use ir_syntax::Program;
 use ir_types::{Known, List, OutOfMemory};
 use std::alloc::Global;
@@ -92,6 +92,9 @@ pub fn plan(
     ensures too_many { result ≡ Err FixFault.TooManyDemands → AreTooMany (program_items program.now) (root (program_items program.now) place args.now) }
     ensures too_much { result ≡ Err FixFault.TooMuchCode → IsTooMuch (program_items program.now) (root (program_items program.now) place args.now) }
 {
+    demands_are_ordered();
+    rows_are_read();
+    rows_are_needed_in_any_order();
     let root = root_in(alloc, items_of(program), place, args)?;
     let rows = [row_at(root.place, root.pattern)];
     let expander = Expander { program };

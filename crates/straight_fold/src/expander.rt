@@ -1,6 +1,6 @@
 //! The expansion of rows: folding for what is demanded, and what the body that is left needs.
 ghost use Rattle.std.specs.Prelude.{◌≡◌, IfOk, None, Some, []};
-ghost use Rattle.interface.specs.declared.demand.Demand.TheVariants as demand;
+ghost use Rattle.demands.specs.declared.demand.Demand.TheVariants as demand;
 ghost use Rattle.straight_fold.specs.Expansion.{IsPieceAt, IsPieceOf, row_needs, row_size};
 ghost use Rattle.straight_fold.specs.Items.{AreStraightItems};
 
@@ -9,7 +9,7 @@ use crate::facts::facts_of;
 use crate::items::{insts_at, items_of};
 use crate::piece::{Found, Piece};
 use demand_core::{Expand, Row};
-use interface::{Demand, Pattern, RowFault, demand_of};
+use demands::{Demand, Pattern, RowFault, demand_of};
 use ir_syntax::{Item, Program, Sym};
 use ir_types::{List, OutOfMemory};
 use std::alloc::Global;

@@ -4,12 +4,16 @@ ghost use Rattle.ir_types.specs.declared.scalar.Known.{Known};
 ghost use Rattle.ir_syntax.specs.declared.item.Item.{Item};
 ghost use Rattle.ir_syntax.specs.declared.item.Module.{Module};
 ghost use Rattle.ir_syntax.specs.Straight.{IsStraight};
-ghost use Rattle.interface.specs.Names.{are_unknown};
-ghost use Rattle.interface.specs.Demands.{IsFunctionFor};
+ghost use Rattle.demands.specs.Names.{are_unknown};
+ghost use Rattle.demands.specs.Demands.{IsFunctionFor};
 ghost use Rattle.straight_plan.specs.declared.cut.Ask.{Ask};
 ghost use Rattle.straight_plan.specs.declared.cut.Cut.{Cut};
 ghost use Rattle.straight_plan.specs.Asked.{is_copied, is_named, root};
 ghost use Rattle.straight_plan.specs.Left.{AreTooMany, IsLeastPlan, IsPlan, IsPlanned, IsTooMuch};
+
+use demands::demands_are_ordered;
+use fixed_point::part_is_no_larger;
+use straight_plan::{Ask, Cut};
 
 /// There is one least plan.
 pub fn plans_are_one()
@@ -21,7 +25,10 @@ pub fn limits_are_apart()
     ensures not_many { (items : List Item) (start : Ask) (plan : List Cut) → IsPlanned items start plan → AreTooMany items start → ⊥ }
     ensures not_much { (items : List Item) (start : Ask) (plan : List Cut) → IsPlanned items start plan → IsTooMuch items start → ⊥ }
     ensures not_both { (items : List Item) (start : Ask) → IsTooMuch items start → AreTooMany items start → ⊥ }
-{}
+{
+    part_is_no_larger::<Ask>();
+    part_is_no_larger::<Cut>();
+}
 
 /// The least plan for a function of a straight-line module is a plan: all that it needs stands in it, and each of it is a
 /// function with a body. Of a start that isn't copied nothing is known, and a start of which something is known is named by
@@ -30,7 +37,9 @@ pub fn least_plan_is_a_plan()
     ensures { (m : Module) (start : Ask) (plan : List Cut) → IsStraight m → IsFunctionFor start.pattern (slice_get m.items start.place)
         → (is_copied m.items start.place ≡ false → are_unknown start.pattern ≡ true)
         → (are_unknown start.pattern ≡ false → is_named m.items start.place ≡ false) → IsLeastPlan m.items start plan → IsPlan m.items start plan }
-{}
+{
+    demands_are_ordered();
+}
 
 /// What an entry is asked for with suits it: it is the function at its place, and a plan for it is one for the entry.
 pub fn root_suits()

@@ -14,6 +14,3 @@ mod root;
 pub use cuts::plan;
 pub use laws::{least_plan_is_a_plan, limits_are_apart, plans_are_one, root_suits};
 pub use root::root_of;
-
-#[cfg(test)]
-mod tests;

@@ -1,6 +1,6 @@
 //! What a row expands into.
 use demand_core::Row;
-use interface::Demand;
+use demands::Demand;
 use ir_types::List;
 use straight_plan::Fact;
 

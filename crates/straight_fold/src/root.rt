@@ -1,6 +1,6 @@
 //! What the entry is asked for with.
 ghost use Rattle.std.specs.Prelude.{◌≡◌, ◌≤◌, IfOk, length, slice_get};
-ghost use Rattle.interface.specs.Demands.{IsFunctionFor};
+ghost use Rattle.demands.specs.Demands.{IsFunctionFor};
 ghost use Rattle.straight_plan.specs.Asked.{program_items, root};
 ghost use Rattle.straight_fold.specs.Items.{AreStraightItems};
 

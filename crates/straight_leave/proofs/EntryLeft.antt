@@ -8,8 +8,8 @@ use Rattle.ir_syntax.specs.declared.item.Item.{Item}
 use Rattle.ir_syntax.specs.declared.item.Item.TheVariants as item
 use Rattle.ir_syntax.specs.FormedBody.{item_name}
 use Rattle.ir_syntax.specs.FormedItem.{is_reserved}
-use Rattle.interface.specs.Names.{are_unknown, items_text, copy_name}
-use Rattle.interface.specs.Demands.{IsFunctionFor}
+use Rattle.demands.specs.Names.{are_unknown, items_text, copy_name}
+use Rattle.demands.specs.Demands.{IsFunctionFor}
 use Rattle.straight_plan.specs.declared.cut.Ask.{Ask}
 use Rattle.straight_plan.specs.declared.cut.Cut.{Cut}
 use Rattle.straight_plan.specs.Left.{IsPlan, asks_of, place_of, is_entry, at_unknown, left_params, left_name, left_func, left_item, left_items}

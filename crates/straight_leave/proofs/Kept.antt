@@ -4,7 +4,7 @@ use Rattle.std.proofs.lemmas.List.{drop_all, drop_more, append-nil}
 use Rattle.ir_types.specs.declared.scalar.Known.{Known}
 use Rattle.ir_types.specs.declared.scalar.Known.TheVariants.{Unknown}
 use Rattle.ir_syntax.specs.declared.body.Arg.{Arg}
-use Rattle.interface.specs.Names.{is_unknown}
+use Rattle.demands.specs.Names.{is_unknown}
 use Rattle.straight_plan.specs.Asked.{known_of, forgotten}
 use Rattle.straight_plan.specs.Left.{at_unknown}
 

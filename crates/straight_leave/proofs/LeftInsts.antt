@@ -18,9 +18,9 @@ use Rattle.ir_syntax.specs.declared.item.Func.{Func}
 use Rattle.ir_syntax.specs.declared.item.Item.{Item}
 use Rattle.ir_syntax.specs.declared.item.Item.TheVariants as item
 use Rattle.ir_syntax.specs.Straight.{word_type, params_of, IsWordOperand, IsWordArg, IsLaterCall, IsStraightInst, AreStraight}
-use Rattle.interface.specs.Names.{is_unknown, are_unknown}
-use Rattle.interface.specs.Order.{demand_order}
-use Rattle.interface.specs.Demands.{IsFunctionFor}
+use Rattle.demands.specs.Names.{is_unknown, are_unknown}
+use Rattle.demands.specs.Order.{demand_order}
+use Rattle.demands.specs.Demands.{IsFunctionFor}
 use Rattle.straight_plan.specs.declared.fact.Fact.{Fact}
 use Rattle.straight_plan.specs.declared.fact.Fact.TheVariants.{Unreached, One, Varying}
 use Rattle.straight_plan.specs.declared.cut.Ask.{Ask}

@@ -15,9 +15,9 @@ use Rattle.ir_syntax.specs.declared.item.Item.{Item}
 use Rattle.ir_syntax.specs.declared.item.Item.TheVariants as item
 use Rattle.ir_syntax.specs.FormedItem.{IsName, is_reserved}
 use Rattle.ir_syntax.specs.Straight.{word_param}
-use Rattle.interface.specs.Order.{number_of}
-use Rattle.interface.specs.Names.{item_text, items_text, are_unknown, copy_name, AreWords}
-use Rattle.interface.specs.Demands.{IsKnownOf}
+use Rattle.demands.specs.Order.{number_of}
+use Rattle.demands.specs.Names.{item_text, items_text, are_unknown, copy_name, AreWords}
+use Rattle.demands.specs.Demands.{IsKnownOf}
 use Rattle.straight_plan.specs.declared.cut.Ask.{Ask}
 use Rattle.straight_plan.specs.Asked.{name_at, is_copied}
 use Rattle.straight_plan.specs.Left.{is_entry, left_name}

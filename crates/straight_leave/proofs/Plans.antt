@@ -11,10 +11,10 @@ use Rattle.ir_syntax.specs.declared.item.Item.{Item}
 use Rattle.ir_syntax.specs.declared.item.Item.TheVariants as item
 use Rattle.ir_syntax.specs.declared.item.Module.{Module}
 use Rattle.ir_syntax.specs.Straight.{IsStraight, IsStraightItem}
-use Rattle.interface.specs.declared.demand.Demand.{Demand}
-use Rattle.interface.specs.Order.{demand_order}
-use Rattle.interface.specs.Demands.{IsFunctionFor, IsKnownOf}
-use Rattle.interface.specs.Rows.{FitsRow}
+use Rattle.demands.specs.declared.demand.Demand.{Demand}
+use Rattle.demands.specs.Order.{demand_order}
+use Rattle.demands.specs.Demands.{IsFunctionFor, IsKnownOf}
+use Rattle.demands.specs.Rows.{FitsRow}
 use Rattle.straight_plan.specs.declared.cut.Ask.{Ask}
 use Rattle.straight_plan.specs.declared.cut.Cut.{Cut}
 use Rattle.straight_plan.specs.Asked.{demand_of}

@@ -5,9 +5,9 @@ use Rattle.std.proofs.lemmas.Bool.Decides.{nat_tests}
 use Rattle.std.proofs.lemmas.Slice.Eq.{bytes_eq-Decides}
 use Rattle.ir_types.specs.declared.scalar.Known.{Known}
 use Rattle.ir_types.specs.declared.scalar.Known.TheVariants.{Unknown, Num, Null}
-use Rattle.interface.specs.declared.demand.Demand.{Demand}
-use Rattle.interface.specs.Order.{symbol_of, pattern_of}
-use Rattle.interface.specs.Rows.{words_of, FitsRow}
+use Rattle.demands.specs.declared.demand.Demand.{Demand}
+use Rattle.demands.specs.Order.{symbol_of, pattern_of}
+use Rattle.demands.specs.Rows.{words_of, FitsRow}
 use Rattle.straight_plan.specs.declared.cut.Ask.{Ask}
 use Rattle.straight_plan.specs.declared.cut.Cut.{Cut}
 use Rattle.straight_plan.specs.Asked.{demand_of}

@@ -5,7 +5,7 @@ use Rattle.std.proofs.lemmas.List.Sums.{sum_by-cons}
 use Rattle.std.proofs.lemmas.List.Elements.{All-from_recursion, recursion_from_All}
 use Rattle.ir_types.specs.declared.scalar.Known.{Known}
 use Rattle.ir_types.specs.declared.scalar.Known.TheVariants.{Unknown, Num, Null}
-use Rattle.interface.specs.Names.{is_unknown, are_unknown}
+use Rattle.demands.specs.Names.{is_unknown, are_unknown}
 use Rattle.straight_plan.specs.declared.fact.Fact.TheVariants.{Varying}
 use Rattle.straight_plan.specs.Folding.{param_fact}
 use Rattle.straight_plan.specs.Left.{at_unknown}

@@ -14,10 +14,10 @@ use Rattle.ir_syntax.specs.declared.item.Item.TheVariants as item
 use Rattle.ir_syntax.specs.declared.item.Module.{Module}
 use Rattle.ir_syntax.specs.FormedBody.{item_name}
 use Rattle.ir_syntax.specs.Straight.{word_param, IsWordOperand, IsStraightFunc, IsStraightItem, IsStraight}
-use Rattle.interface.specs.declared.demand.Demand.{Demand}
-use Rattle.interface.specs.Order.{demand_order}
-use Rattle.interface.specs.Names.{are_unknown, copy_name}
-use Rattle.interface.specs.Demands.{IsKnownOf, IsFunctionFor}
+use Rattle.demands.specs.declared.demand.Demand.{Demand}
+use Rattle.demands.specs.Order.{demand_order}
+use Rattle.demands.specs.Names.{are_unknown, copy_name}
+use Rattle.demands.specs.Demands.{IsKnownOf, IsFunctionFor}
 use Rattle.straight_plan.specs.declared.cut.Ask.{Ask}
 use Rattle.straight_plan.specs.declared.cut.Cut.{Cut}
 use Rattle.straight_plan.specs.Folding.{IsClosed}

@@ -15,7 +15,7 @@ use Rattle.ir_syntax.specs.declared.body.Inst.TheVariants as inst
 use Rattle.ir_syntax.specs.declared.item.Param.{Param}
 use Rattle.ir_syntax.specs.declared.item.Item.{Item}
 use Rattle.ir_syntax.specs.Straight.{word_param, IsWord, IsWordOperand, IsStraightInst, AreStraight}
-use Rattle.interface.specs.Demands.{IsKnownOf}
+use Rattle.demands.specs.Demands.{IsKnownOf}
 use Rattle.straight_plan.specs.declared.fact.Fact.{Fact}
 use Rattle.straight_plan.specs.declared.fact.Fact.TheVariants.{Unreached, One, Varying}
 use Rattle.straight_plan.specs.Folding.{IsBelow, known_fact, param_fact, fact_at, const_fact, operand_fact, fact_sum, operation_fact, said, IsClosed}

@@ -4,7 +4,7 @@ use Rattle.ir_types.specs.declared.scalar.Known.{Known}
 use Rattle.ir_syntax.specs.declared.constant.Operand.{Operand}
 use Rattle.ir_syntax.specs.declared.constant.Operand.TheVariants as operand
 use Rattle.ir_syntax.specs.declared.body.Inst.{Inst}
-use Rattle.interface.specs.Names.{is_unknown}
+use Rattle.demands.specs.Names.{is_unknown}
 use Rattle.straight_plan.specs.declared.fact.Fact.{Fact}
 use Rattle.straight_plan.specs.Folding.{fact_at}
 use Rattle.straight_plan.specs.Residual.{stays}

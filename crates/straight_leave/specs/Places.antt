@@ -1,7 +1,7 @@
 -- Places of what is asked for, by the rows of demands.
 use Rattle.std.specs.Prelude.{ℕ, ◌^◌, Bool, ◌&&◌, nat_lt, nat_le, List, length, map, bytes_eq, if◌then◌else◌}
 use Rattle.std.specs.List.{position_or_len}
-use Rattle.interface.specs.Rows.{words_of}
+use Rattle.demands.specs.Rows.{words_of}
 use Rattle.straight_plan.specs.declared.cut.Ask.{Ask}
 use Rattle.straight_plan.specs.declared.cut.Cut.{Cut}
 use Rattle.straight_plan.specs.Asked.{demand_of}

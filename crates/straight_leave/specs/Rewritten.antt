@@ -18,7 +18,7 @@ use Rattle.ir_syntax.specs.declared.item.Func.{Func}
 use Rattle.ir_syntax.specs.declared.item.Item.{Item}
 use Rattle.ir_syntax.specs.declared.item.Item.TheVariants as item
 use Rattle.ir_syntax.specs.Straight.{word_type}
-use Rattle.interface.specs.Names.{copy_name}
+use Rattle.demands.specs.Names.{copy_name}
 use Rattle.straight_plan.specs.declared.cut.Ask.{Ask}
 use Rattle.straight_plan.specs.declared.cut.Cut.{Cut}
 use Rattle.straight_plan.specs.Asked.{known_of, asked, written_callee}

@@ -1,6 +1,6 @@
 //! What folding knows of operands, and the operands with known values put in.
 ghost use Rattle.std.specs.Prelude.{◌≡◌, slice_get, IfOk};
-ghost use Rattle.interface.specs.Names.{is_unknown as is_unknown_item, are_unknown as are_unknown_items};
+ghost use Rattle.demands.specs.Names.{is_unknown as is_unknown_item, are_unknown as are_unknown_items};
 ghost use Rattle.straight_plan.specs.Folding.{known_fact as fact_of_known, param_fact as fact_of_param, fact_at as fact_found, const_fact as fact_of_const, operand_fact as fact_of_operand};
 ghost use Rattle.straight_plan.specs.Residual.{put as put_in, stays as does_stay, is_one as is_one_value};
 

@@ -1,6 +1,6 @@
 //! What is left of functions and of items.
 ghost use Rattle.std.specs.Prelude.{◌≡◌, slice_get, if◌then◌else◌, IfOk, option_map};
-ghost use Rattle.interface.specs.Names.{copy_name};
+ghost use Rattle.demands.specs.Names.{copy_name};
 ghost use Rattle.straight_plan.specs.Left.{at_unknown, is_entry as is_entry_of};
 ghost use Rattle.straight_leave.specs.Places.{place_in as place_among_rows};
 ghost use Rattle.straight_leave.specs.Rewritten.{new_body, new_func, new_items};
@@ -8,8 +8,8 @@ ghost use Rattle.straight_leave.specs.Rewritten.{new_body, new_func, new_items};
 use crate::body::left_body;
 use crate::facts::are_unknown;
 use demand_core::Row;
+use demands::clone_name;
 use indexmap::IndexSet;
-use interface::clone_name;
 use ir_syntax::{Func, Item, Param};
 use ir_types::{Bytes, Copied, Known, OutOfMemory};
 use sqlite_items::{Items as List, at};

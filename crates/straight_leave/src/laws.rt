@@ -8,7 +8,7 @@ ghost use Rattle.straight_plan.specs.Left.{IsPlan, asks_of, place_of, left_modul
 ghost use Rattle.straight_leave.specs.Entries.{IsNotNamed, IsLeftOf};
 ghost use Rattle.straight_leave.specs.PlainNames.{HaveNoCopyNames, HaveNoReservedNames};
 
-use interface::{demands_are_ordered, names_are_apart};
+use demands::{demands_are_ordered, names_are_apart};
 
 /// What is left by a plan of a straight module is straight, where no name of the module begins as those of copies do, and
 /// where no body names the entry that is left for known arguments. Where no name of the module begins with `llvm.`, none

@@ -13,13 +13,11 @@ mod functions;
 mod laws;
 mod numbers;
 mod places;
-#[cfg(test)]
-mod tests;
 
 use crate::functions::left_items;
 use crate::places::rows_of;
 pub use counts::{clones, originals};
-use interface::{demands_are_ordered, rows_are_apart};
+use demands::{demands_are_ordered, rows_are_apart};
 use ir_syntax::Module;
 use ir_types::{Copied, OutOfMemory};
 pub use laws::what_is_left_is_straight;

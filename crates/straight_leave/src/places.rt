@@ -1,12 +1,12 @@
 //! Where what is asked for stands in what is left.
 ghost use Rattle.std.specs.Prelude.{◌≡◌, ◌≢◌, ◌≤◌, ◌<◌, ◌^◌, All, AllPairs, length, IfOk};
-ghost use Rattle.interface.specs.Rows.{words_of};
+ghost use Rattle.demands.specs.Rows.{words_of};
 ghost use Rattle.straight_plan.specs.Asked.{demand_of};
 ghost use Rattle.straight_leave.specs.Places.{row_of as row_of_ask, rows_of as rows_of_plan, place_in as place_among_rows};
 
 use demand_core::Row;
+use demands::{Demand, Pattern, row_of as row_of_demand};
 use indexmap::IndexSet;
-use interface::{Demand, Pattern, row_of as row_of_demand};
 use ir_syntax::Sym;
 use ir_types::{Known, OutOfMemory};
 use std::alloc::Global;

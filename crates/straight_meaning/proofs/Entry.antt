@@ -16,8 +16,8 @@ use Rattle.ir_syntax.specs.declared.item.Item.TheVariants as item
 use Rattle.ir_syntax.specs.declared.item.Module.{Module}
 use Rattle.ir_syntax.specs.FormedBody.{item_name}
 use Rattle.name_table.specs.Places.{place_among}
-use Rattle.interface.specs.Names.{are_unknown, items_text}
-use Rattle.interface.specs.Demands.{IsKnownOf, IsFunctionFor}
+use Rattle.demands.specs.Names.{are_unknown, items_text}
+use Rattle.demands.specs.Demands.{IsKnownOf, IsFunctionFor}
 use Rattle.straight_plan.specs.declared.cut.Ask.{Ask}
 use Rattle.straight_plan.specs.declared.cut.Cut.{Cut}
 use Rattle.straight_plan.specs.Asked.{insts_at, forgotten, is_copied, asked, names_place, is_named, root}

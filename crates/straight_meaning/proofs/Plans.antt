@@ -16,7 +16,7 @@ use Rattle.ir_syntax.specs.declared.item.Item.{Item}
 use Rattle.ir_syntax.specs.declared.item.Item.TheVariants as item
 use Rattle.ir_syntax.specs.declared.item.Module.{Module}
 use Rattle.ir_syntax.specs.Straight.{straight_body}
-use Rattle.interface.specs.Demands.{IsFunctionFor}
+use Rattle.demands.specs.Demands.{IsFunctionFor}
 use Rattle.straight_plan.specs.declared.cut.Ask.{Ask}
 use Rattle.straight_plan.specs.declared.cut.Cut.{Cut}
 use Rattle.straight_plan.specs.Asked.{insts_at, body_insts}

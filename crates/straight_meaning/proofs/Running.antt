@@ -9,7 +9,7 @@ use Rattle.ir_syntax.specs.declared.item.Item.{Item}
 use Rattle.ir_syntax.specs.declared.item.Item.TheVariants as item
 use Rattle.ir_syntax.specs.declared.item.Module.{Module}
 use Rattle.ir_syntax.specs.Straight.{IsStraight, IsStraightItem}
-use Rattle.interface.specs.Demands.{IsKnownOf, IsFunctionFor}
+use Rattle.demands.specs.Demands.{IsKnownOf, IsFunctionFor}
 use Rattle.straight_meaning.specs.declared.value.Val.TheVariants as val
 use Rattle.straight_meaning.specs.declared.session.Stepped.{Stepped}
 use Rattle.straight_meaning.specs.declared.session.Stepped.TheVariants as stepped

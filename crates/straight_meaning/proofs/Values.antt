@@ -13,7 +13,7 @@ use Rattle.ir_syntax.specs.declared.body.Arg.{Arg}
 use Rattle.ir_syntax.specs.declared.body.Inst.{Inst}
 use Rattle.ir_syntax.specs.declared.body.Inst.TheVariants as inst
 use Rattle.ir_syntax.specs.Straight.{IsWordOperand, IsWordArg}
-use Rattle.interface.specs.Names.{is_unknown}
+use Rattle.demands.specs.Names.{is_unknown}
 use Rattle.straight_plan.specs.declared.fact.Fact.{Fact}
 use Rattle.straight_plan.specs.declared.fact.Fact.TheVariants.{Unreached, One, Varying}
 use Rattle.straight_plan.specs.declared.cut.Ask.{Ask}

@@ -4,7 +4,7 @@ use Rattle.ir_types.specs.declared.scalar.Known.{Known}
 use Rattle.ir_syntax.specs.declared.item.Module.{Module}
 use Rattle.ir_syntax.specs.FormedBody.{item_name}
 use Rattle.ir_syntax.specs.Straight.{IsStraight}
-use Rattle.interface.specs.Demands.{IsFunctionFor}
+use Rattle.demands.specs.Demands.{IsFunctionFor}
 use Rattle.straight_plan.specs.declared.cut.Ask.{Ask}
 use Rattle.straight_plan.specs.declared.cut.Cut.{Cut}
 use Rattle.straight_plan.specs.Asked.{root}

@@ -3,7 +3,7 @@ ghost use Rattle.std.specs.Prelude.{◌≡◌, ◌⊎◌, ℕ, Some, List, IsSom
 ghost use Rattle.ir_types.specs.declared.scalar.Known.{Known};
 ghost use Rattle.ir_syntax.specs.declared.item.Module.{Module};
 ghost use Rattle.ir_syntax.specs.Straight.{IsStraight};
-ghost use Rattle.interface.specs.Demands.{IsFunctionFor};
+ghost use Rattle.demands.specs.Demands.{IsFunctionFor};
 ghost use Rattle.straight_meaning.specs.declared.session.Stepped.{Stepped};
 ghost use Rattle.straight_meaning.specs.declared.session.Session.{Session};
 ghost use Rattle.straight_meaning.specs.declared.session.Run.{Run};

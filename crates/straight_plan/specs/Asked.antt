@@ -14,8 +14,8 @@ use Rattle.ir_syntax.specs.declared.item.Item.{Item}
 use Rattle.ir_syntax.specs.declared.item.Item.TheVariants as item
 use Rattle.ir_syntax.specs.declared.item.Module.{Module}
 use Rattle.ir_syntax.specs.FormedBody.{item_name}
-use Rattle.interface.specs.declared.demand.Demand.{Demand}
-use Rattle.interface.specs.declared.demand.Demand.TheVariants.{Func}
+use Rattle.demands.specs.declared.demand.Demand.{Demand}
+use Rattle.demands.specs.declared.demand.Demand.TheVariants.{Func}
 use Rattle.straight_plan.specs.declared.fact.Fact.{Fact}
 use Rattle.straight_plan.specs.declared.cut.Ask.{Ask}
 use Rattle.straight_plan.specs.Folding.{IsLeastClosed}

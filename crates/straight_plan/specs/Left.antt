@@ -19,9 +19,9 @@ use Rattle.ir_syntax.specs.declared.item.Item.{Item}
 use Rattle.ir_syntax.specs.declared.item.Item.TheVariants as item
 use Rattle.ir_syntax.specs.declared.item.Module.{Module}
 use Rattle.ir_syntax.specs.Straight.{word_type}
-use Rattle.interface.specs.Names.{is_unknown, are_unknown, copy_name}
-use Rattle.interface.specs.Order.{demand_order}
-use Rattle.interface.specs.Demands.{IsFunctionFor}
+use Rattle.demands.specs.Names.{is_unknown, are_unknown, copy_name}
+use Rattle.demands.specs.Order.{demand_order}
+use Rattle.demands.specs.Demands.{IsFunctionFor}
 use Rattle.straight_plan.specs.declared.cut.Ask.{Ask}
 use Rattle.straight_plan.specs.declared.cut.Cut.{Cut}
 use Rattle.straight_plan.specs.Folding.{IsClosed, IsLeastClosed}

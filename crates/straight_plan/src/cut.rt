@@ -1,6 +1,6 @@
 //! What is asked for, and what is left for it.
 use crate::Fact;
-use interface::Pattern;
+use demands::Pattern;
 use sqlite_items::Items as List;
 
 /// A function of the module, by its place, with what is known of its arguments.

@@ -9,8 +9,6 @@ mod numbers;
 mod parse;
 mod pieces;
 mod resolve;
-#[cfg(test)]
-mod tests;
 
 ghost use Rattle.std.specs.Prelude.{◌≡◌, ◌≤◌, length, option_and_then, IfOk, IfSome, IfNone};
 ghost use Rattle.std.specs.List.{All};

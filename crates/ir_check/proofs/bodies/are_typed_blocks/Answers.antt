@@ -1,13 +1,9 @@
 use Rattle.std.proofs.Common.{ℕ, List, length, subst, sym, ◌∙◌}
 use Rattle.std.proofs.lemmas.Bool.{false≢true}
-use Rattle.ir_check.specs.Nests.{BlockNests}
 use Rattle.ir_check.specs.Scopes.{types_of}
 use Rattle.ir_check.specs.Suited.{SuitsBlock}
 use Rattle.ir_check.proofs.Entered.{preds_there, blocks_stop, blocks_go, blocks_end}
 use Rattle.ir_check.proofs.bodies.are_typed_blocks.Goals as goal
-
-pub suits_block-requires-clause-nests : goal.suits_block-requires-clause-nests
-suits_block-requires-clause-nests c = subst BlockNests (sym c.index-blocks-place.is) (c.requires.nests c.loop-place.place c.index-blocks-place.result c.loop-place-test.true)
 
 pub suits_block-requires-clause-there : goal.suits_block-requires-clause-there
 suits_block-requires-clause-there c =

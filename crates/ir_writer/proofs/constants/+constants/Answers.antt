@@ -4,9 +4,8 @@ use Rattle.std.proofs.lemmas.Result.{on_ok_weaker}
 use Rattle.ir_lexer.specs.Written.{bytes_of}
 use Rattle.ir_syntax.specs.declared.constant.Const.{Const}
 use Rattle.ir_syntax.specs.FormedBody.{item_name}
-use Rattle.ir_scope.proofs.Equal.{array-out}
 use Rattle.ir_writer.specs.Constants.{braced, address, typed_part, typed_fields, constant_parts}
-use Rattle.ir_writer.proofs.TypeTexts.{list_step, none_length, some_length, braces_written}
+use Rattle.ir_writer.proofs.TypeTexts.{list_step, array_layer, none_length, some_length, braces_written}
 use Rattle.ir_writer.proofs.ConstantTexts.{number_bytes, null_bytes, address_bytes, undef_bytes, poison_bytes, zero_bytes, text_written, many_bytes, typed_written, elements_written, field_step, fields_over, fields_none, fields_some}
 use Rattle.ir_writer.proofs.constants.+constants.Goals as goal
 use Rattle.ir_writer.proofs.constants.+constants.Goals.{write_fields-then-is_empty-via-then-is_empty, write_fields-then-is_empty-via-else-is_empty+then-is_empty-2}
@@ -70,7 +69,7 @@ write_typed_part-returns t c =
 pub write_many-returns-in_ok-write_elements-in-Array : goal.write_many-returns-in_ok-write_elements-in-Array
 write_many-returns-in_ok-write_elements-in-Array t c =
     on_ok_weaker c.append-in-Array.result
-    (λ e. elements_written (map item_name c.args.items.now) c.args.ty.now c.get.result.now c.in-Array.field-0 c.args.parts.now _ _ _ _ (array-out c.args.ty.now _ _ _ c.in-Array.is c.get.ensures)
+    (λ e. elements_written (map item_name c.args.items.now) c.args.ty.now c.get.result.now c.in-Array.field-0 c.args.parts.now _ _ _ _ (array_layer c.args.ty.now _ _ _ c.in-Array.is c.get.ensures)
     c.in_ok-append-in-Array.ensures.ok c.in_ok-write_elements-in-Array.ensures e)
     c.append-in-Array.ensures.ok
 

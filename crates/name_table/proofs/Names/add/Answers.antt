@@ -1,17 +1,12 @@
-use Rattle.std.proofs.Common.{◌≡◌, ◌∙◌, ◌∷◌, [], ◌++◌, false, refl, ap, sym, bytes_eq}
-use Rattle.std.specs.List.{list_any}
-use Rattle.name_table.specs.Places.{is_among}
-use Rattle.name_table.proofs.Positions.{is_among-map, names_after}
+use Rattle.std.proofs.Common.{refl, sym}
+use Rattle.name_table.proofs.NameLists.{not_placed, placed_among}
 use Rattle.name_table.proofs.Names.add.Goals as goal
 
-pub returns-then-contains-clause-ok : goal.returns-then-contains-clause-ok
-returns-then-contains-clause-ok c =
-    (sym (ap (is_among c.args.name.now) c.self.view_is) ∙ is_among-map c.args.name.now (λ v. v.items) c.self.inside.names.keys ∙ sym c.contains.ensures ∙ c.if-contains.true, refl)
+pub push-requires : goal.push-requires
+push-requires c = not_placed c.args.name.now c.args.self.now (sym c.in-None.ensures.place)
 
-pub returns-clause-ok : goal.returns-clause-ok
-returns-clause-ok c =
-    let absent : list_any (λ v. bytes_eq c.args.name.now v.items) c.self.inside.names.keys ≡ false = sym c.contains.ensures ∙ c.if-contains.false in (
-      sym (ap (is_among c.args.name.now) c.self.view_is) ∙ is_among-map c.args.name.now (λ v. v.items) c.self.inside.names.keys ∙ absent,
-      names_after (λ v. v.items) c.args.name.now c.self.inside.names.keys c.insert.new.self.keys c.in_ok-owned.owned c.in_ok-owned.ensures.items absent c.in_ok-insert.ensures.keys
-          ∙ ap (λ names. names ++ c.args.name.now ∷ []) c.self.view_is,
-    )
+pub returns-in-Some-clause-ok : goal.returns-in-Some-clause-ok
+returns-in-Some-clause-ok c = (placed_among c.args.name.now c.args.self.now _ (sym c.in-Some.ensures.place), refl)
+
+pub returns-in_ok-push-in-None-clause-ok : goal.returns-in_ok-push-in-None-clause-ok
+returns-in_ok-push-in-None-clause-ok c = (not_placed c.args.name.now c.args.self.now (sym c.in-None.ensures.place), c.in_ok-push-in-None.ensures.ok)

@@ -7,9 +7,9 @@ use Rattle.std.specs.List.Sorted.{IsSortedBy, IsSortedByKey}
 use Rattle.std.proofs.lemmas.List.Sorted.{answers_always, ranks_by}
 use denote.Param.Members.{Mut}
 use denote.Ref.{Bor}
-use Rattle.interface.specs.declared.demand.Demand.{Demand}
-use Rattle.interface.specs.Order.{demand_order}
-use Rattle.interface.specs.TotalOrder.{demand_total}
+use Rattle.demands.specs.declared.demand.Demand.{Demand}
+use Rattle.demands.specs.Order.{demand_order}
+use Rattle.demands.specs.TotalOrder.{demand_total}
 use Rattle.straight_fold.proofs.cuts.in_demand_order.Goals as goal
 
 -- what a sort by a comparison ensures, where each call of the closure compares the demands

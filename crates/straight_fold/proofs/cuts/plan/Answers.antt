@@ -10,7 +10,7 @@ use Rattle.straight_fold.specs.declared.piece.Found.{Found}
 use Rattle.straight_fold.specs.Expansion.{row_needs, row_size}
 use Rattle.std.specs.Prelude.{slice_get}
 use Rattle.ir_syntax.specs.declared.item.Item.{Item}
-use Rattle.interface.specs.Demands.{IsFunctionFor}
+use Rattle.demands.specs.Demands.{IsFunctionFor}
 use Rattle.straight_plan.specs.declared.cut.Ask.{Ask}
 use Rattle.straight_plan.specs.Asked.{program_items, root}
 use Rattle.straight_fold.specs.Calls.{row_of}
@@ -50,7 +50,7 @@ returns-in-Err-clause-too_many c is =
     let modules = c.args.program.now in
     let start = root (program_items modules) c.args.place c.args.args.now in
     let same = root-same c.items_of.result.now (program_items modules) c.args.place c.args.args.now c.in_ok-root.root c.in_ok-root.ensures c.items_of.ensures.items in
-    program-many modules start c.items_of.ensures.program (root-good (program_items modules) c.args.place c.args.args.now c.requires.entry)
+    program-many (record { found = c.rows_are_read.ensures.found; all = c.rows_are_read.ensures.all }) c.demands_are_ordered.ensures.equal c.rows_are_needed_in_any_order.ensures modules start c.items_of.ensures.program (root-good (program_items modules) c.args.place c.args.args.now c.requires.entry)
     (at-root (λ roots. NeedsMoreThan (row_needs modules) roots 65536) c.row_at.result c.in_ok-root.root start c.row_at.ensures same
     (c.in-Err.ensures.too_many (ap Err (fault-same c.in-Err.fault TooManyDemands is))))
 
@@ -60,7 +60,7 @@ returns-in-Err-clause-too_much c is =
     let start = root (program_items modules) c.args.place c.args.args.now in
     let same = root-same c.items_of.result.now (program_items modules) c.args.place c.args.args.now c.in_ok-root.root c.in_ok-root.ensures c.items_of.ensures.items in
     let fault = ap Err (fault-same c.in-Err.fault TooMuchCode is) in
-    program-much modules start c.items_of.ensures.program (root-good (program_items modules) c.args.place c.args.args.now c.requires.entry)
+    program-much (record { found = c.rows_are_read.ensures.found; all = c.rows_are_read.ensures.all }) c.demands_are_ordered.ensures.equal c.rows_are_needed_in_any_order.ensures modules start c.items_of.ensures.program (root-good (program_items modules) c.args.place c.args.args.now c.requires.entry)
     (at-root (λ roots. WeighsMoreThan (row_needs modules) (row_size modules) roots 8388608) c.row_at.result c.in_ok-root.root start c.row_at.ensures same (c.in-Err.ensures.too_much fault))
     (at-root (λ roots. NeedsMoreThan (row_needs modules) roots 65536 → ⊥) c.row_at.result c.in_ok-root.root start c.row_at.ensures same (c.in-Err.ensures.too_much_of_few fault))
 
@@ -75,5 +75,5 @@ returns-clause-planned c =
     let needed = at-root (λ roots. AreAllNeeded (row_needs modules) roots (map (λ pair. pair.0) pairs)) c.row_at.result c.in_ok-root.root start c.row_at.ensures same c.in-Ok.ensures.rows in
     let moved = subst (λ (found : List Found). IsPermutation found sorted) c.in_ok-functions_of.ensures c.in_ok-found.ensures.same in
     subst (IsPlanned items start) (sym c.in_ok-cuts_of.ensures)
-    (program-planned modules start pairs sorted c.items_of.ensures.program (root-good items c.args.place c.args.args.now c.requires.entry)
+    (program-planned (record { found = c.rows_are_read.ensures.found; all = c.rows_are_read.ensures.all }) c.demands_are_ordered.ensures.equal c.rows_are_needed_in_any_order.ensures modules start pairs sorted c.items_of.ensures.program (root-good items c.args.place c.args.args.now c.requires.entry)
     needed c.in-Ok.ensures.pieces c.in-Ok.ensures.few c.in-Ok.ensures.small moved c.in_ok-found.ensures.order)

@@ -1,7 +1,7 @@
 use Rattle.std.proofs.Common.{◌≡◌, All, suc, ap, sym, subst, ◌∙◌, Some}
 use Rattle.std.specs.Prelude.{slice_get}
 use Rattle.straight_plan.specs.Asked.{insts_at}
-use Rattle.interface.specs.declared.demand.Demand.TheVariants.{Func}
+use Rattle.demands.specs.declared.demand.Demand.TheVariants.{Func}
 use Rattle.straight_fold.specs.Facts.{facts_of}
 use Rattle.straight_fold.specs.Calls.{IsShortCall, rows_of, left_count}
 use Rattle.straight_fold.proofs.Blocks.{short-calls-at}

@@ -1,6 +1,6 @@
 use Rattle.std.proofs.Common.{sym, subst}
 use Rattle.ir_syntax.specs.declared.item.Item.{Item}
-use Rattle.interface.specs.Demands.{IsFunctionFor}
+use Rattle.demands.specs.Demands.{IsFunctionFor}
 use Rattle.std.specs.Prelude.{List, slice_get}
 use Rattle.straight_fold.proofs.Reading.{short-place}
 use Rattle.straight_fold.proofs.root.root_of.Goals as goal

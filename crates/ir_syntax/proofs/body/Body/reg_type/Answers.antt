@@ -1,7 +1,8 @@
 use Rattle.std.proofs.Common.{None, sym, ◌∙◌, ap, drop, ◌+◌}
 use Rattle.std.specs.List.{slice_get, flat_map}
 use Rattle.ir_syntax.specs.Results.{block_results, results}
-use Rattle.ir_syntax.proofs.ResultLemmas.{results_at, slice_get-append_first, slice_get-append_rest, there_within, none_left}
+use Rattle.ir_types.proofs.ListSteps.{slice_get-append_first, slice_get-append_rest}
+use Rattle.ir_syntax.proofs.ResultLemmas.{results_at, there_within, none_left}
 use Rattle.ir_syntax.proofs.body.Body.reg_type.Goals as goal
 
 pub returns-in-Ok-clause-value : goal.returns-in-Ok-clause-value

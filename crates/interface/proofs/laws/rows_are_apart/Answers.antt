@@ -1,9 +1,0 @@
-use Rattle.interface.proofs.SameDemand.{row-same}
-use Rattle.interface.proofs.DemandReading.{one-demand}
-use Rattle.interface.proofs.laws.rows_are_apart.Goals as goal
-
-pub returns-clause-rows : goal.returns-clause-rows
-returns-clause-rows c = row-same
-
-pub returns-clause-demands : goal.returns-clause-demands
-returns-clause-demands c = one-demand

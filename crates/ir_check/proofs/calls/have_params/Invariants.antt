@@ -1,6 +1,0 @@
--- the parameters so far have the types so far
-use Rattle.std.proofs.Common.{◌≡◌, map, take}
-use Rattle.ir_check.proofs.calls.have_params.Given as goal
-
-abbrev pub invariant-loop-i : goal.invariant-loop-i
-invariant-loop-i l = map (λ param. param.ty) (take l.i l.params) ≡ take l.i l.types
