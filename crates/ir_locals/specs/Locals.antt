@@ -10,16 +10,13 @@ use Rattle.ir_grammar.specs.Walk.{Kept}
 use Rattle.ir_syntax.specs.declared.constant.Operand.{Operand}
 use Rattle.ir_syntax.specs.declared.constant.Operand.TheVariants as operand
 use Rattle.name_table.specs.Places.{are_distinct}
+pub use Rattle.ir_types.specs.Names.{is_name}
 use Rattle.ir_locals.specs.declared.local.Local.{Local as LocalValue}
 use Rattle.ir_locals.specs.declared.local.Local.TheVariants.{Param, Reg, Block}
 
 -- what a name of a function stands for
 abbrev pub Local : Type 0
 Local = LocalValue
-
--- A name has 1 to 4,096 bytes, none of them zero.
-abbrev pub is_name : List ℕ → Bool
-is_name name = nat_lt 0 (length name) && nat_le (length name) 4096 && list_all (λ byte. not (byte == 0)) name
 
 -- the name of %name, and of name:
 abbrev pub local_name : List ℕ → List ℕ

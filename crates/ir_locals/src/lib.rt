@@ -9,5 +9,5 @@ mod table;
 
 pub use laws::{locals_are_distinct, locals_are_within};
 pub use local::Local;
-pub use name::{decimal_name, is_decimal, is_name};
+pub use name::{decimal_name, is_decimal};
 pub use table::Locals;

@@ -1,29 +1,13 @@
-//! Which bytes are names, and names that are counted.
-ghost use Rattle.std.specs.Prelude.{◌≡◌, ◌==◌, not, IfOk};
+//! Names that are counted.
+ghost use Rattle.std.specs.Prelude.{◌≡◌, IfOk};
 ghost use Rattle.std.specs.List.{list_all};
 ghost use Rattle.std.specs.Char.{is_ascii_digit};
 ghost use Rattle.std.specs.Fmt.{decimal};
 ghost use Rattle.ir_lexer.specs.Spelled.{is_decimal};
-ghost use Rattle.ir_locals.specs.Locals.{is_name, decimals};
+ghost use Rattle.ir_locals.specs.Locals.{decimals};
 
 use ir_types::{Bytes, OutOfMemory};
 use std::alloc::Global;
-
-/// The most bytes of a name.
-const LONGEST: usize = 4096;
-
-fn has_no_zero(bytes: &[u8]) -> bool
-    ensures { result ≡ list_all (λ byte. not (byte == 0)) bytes.now }
-{
-    bytes.iter().all(|byte| *byte != 0)
-}
-
-/// Whether a name has 1 to 4,096 bytes, none of them zero.
-pub fn is_name(name: &[u8]) -> bool
-    ensures { result ≡ is_name name.now }
-{
-    !name.is_empty() && name.len() <= LONGEST && has_no_zero(name)
-}
 
 fn are_digits(bytes: &[u8]) -> bool
     ensures { result ≡ list_all is_ascii_digit bytes.now }

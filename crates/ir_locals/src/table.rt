@@ -6,13 +6,13 @@ ghost use Rattle.ir_locals.specs.Locals.{local_name, label_names, result_names, 
 ghost use Rattle.ir_locals.specs.Adding.{HasAdded, waiting_name};
 
 use crate::local::Local;
-use crate::name::{decimal_name, decimals, is_name};
+use crate::name::{decimal_name, decimals};
 use crate::shapes::{begins_labelled, has_result, is_label, waiting};
 use indexmap::IndexMap;
 use ir_grammar::Lexeme;
 use ir_lexer::{Kind, Token, decode, undecoded};
 use ir_syntax::Operand;
-use ir_types::{Bytes, OutOfMemory};
+use ir_types::{Bytes, OutOfMemory, is_name};
 use std::alloc::Global;
 use std::marker::Model;
 

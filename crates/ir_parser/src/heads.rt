@@ -1,6 +1,5 @@
 //! Declarations and definitions of functions.
 ghost use Rattle.std.specs.Prelude.{◌≡◌, ◌&&◌, not, IfOk, option_map};
-ghost use Rattle.ir_syntax.specs.FormedBody.{is_intrinsic};
 ghost use Rattle.ir_syntax.specs.FormedItem.{is_reserved};
 ghost use Rattle.ir_grammar.specs.Walk.{seen};
 ghost use Rattle.ir_scope.specs.Scopes.{env_of};
@@ -11,11 +10,10 @@ use crate::params::{are_params, names, params, types};
 use crate::spelling::name;
 use ir_body::resolve_body;
 use ir_grammar::{Lexeme, Shape};
-use ir_locals::is_name;
 use ir_operands::{after, ext};
 use ir_scope::Scope;
-use ir_syntax::{Body, Func, Item, Linkage};
-use ir_types::{Bytes, Ext, OutOfMemory, Scalar};
+use ir_syntax::{Body, Func, Intrinsic, Item, Linkage};
+use ir_types::{Bytes, Ext, OutOfMemory, Scalar, is_name};
 use sqlite_items::Items as List;
 use std::alloc::Global;
 
@@ -32,15 +30,6 @@ fn is_reserved(name: &[u8]) -> bool
     ensures { result ≡ is_reserved name.now }
 {
     name.starts_with(b"llvm.")
-}
-
-/// Whether the name is that of an intrinsic that copies or fills memory.
-fn is_intrinsic(name: &[u8]) -> bool
-    ensures { result ≡ is_intrinsic name.now }
-{
-    name == b"llvm.memcpy.p0.p0.i64".as_slice()
-        || name == b"llvm.memmove.p0.p0.i64".as_slice()
-        || name == b"llvm.memset.p0.i64".as_slice()
 }
 
 /// Whether this is a name of a variable or a definition.
@@ -163,7 +152,7 @@ fn declared(head: Head) -> Option<Item>
 {
     let Head { func, .. } = head;
     let name = func.name.as_slice();
-    if is_name(name) && (!is_reserved(name) || is_intrinsic(name)) {
+    if is_name(name) && (!is_reserved(name) || Intrinsic::of_name(name).is_some()) {
         Some(Item::Func(func))
     } else {
         None

@@ -92,7 +92,7 @@ struct_case : (s : Scalar) (o : Option ℕ) (fs : List Ty) (offsets : List ℕ) 
     → ((k : ℕ) (t : Ty) → slice_get fs k ≡ Some t → Rest t ↔ IsSomeAnd (rest t) More)
     → ((x : Stride) (xs : List Stride) → (SuitsStride s o x × More xs) ↔ Q (x ∷ xs))
     → ((s ≡ I32) × IsSome (field_at fs o) × IfSome (field_at fs o) Rest)
-        ↔ IsSomeAnd (onward rest (option_map Field (option_and_then (slice_get offsets) (place (index_with s o)))) (option_and_then (slice_get fs) (place (index_with s o)))) Q
+    ↔ IsSomeAnd (onward rest (option_map Field (option_and_then (slice_get offsets) (place (index_with s o)))) (option_and_then (slice_get fs) (place (index_with s o)))) Q
 struct_case s None fs offsets Rest rest More Q few as_many part suits = (λ h. absurd (false≢true h.1), λ h. absurd h)
 struct_case s (Some n) fs offsets Rest rest More Q few as_many part suits = (there, back)
   where
@@ -125,8 +125,7 @@ struct_case s (Some n) fs offsets Rest rest More Q few as_many part suits = (the
     back_at (Some k) (Some t) (Some a) at is h =
         let suited = inner (rest t) h in
         let same : k ≡ n = place-number n k suited.0.1 (sym (ap (λ ty. place (index_with ty (Some n))) suited.0.0) ∙ at) in
-        let found : slice_get fs n ≡ Some t = ap (slice_get fs) (sym same) ∙ is in
-        (
+        let found : slice_get fs n ≡ Some t = ap (slice_get fs) (sym same) ∙ is in (
           suited.0.0,
           ap is_some found,
           subst (λ (f : Option Ty). IfSome f Rest) (sym found) ((part n t found).1 suited.1),

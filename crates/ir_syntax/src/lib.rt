@@ -24,6 +24,3 @@ pub use laws::{functions_are_sound, mapping_keeps_the_rest, walks_have_strides};
 pub use mapped::MapOperand;
 pub use program::Program;
 pub use symbol::{Builtin, Intrinsic, Sym, SymName, Target};
-
-#[cfg(test)]
-mod tests;

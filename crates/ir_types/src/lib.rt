@@ -13,7 +13,7 @@ mod walk;
 
 pub use bytes::Bytes;
 pub use copied::Copied;
-pub use layouts::{align_of, field_offset, size_of};
+pub use layouts::{Layout, LayoutFault, align_of, field_offset, field_offsets, layout_of, size_of};
 pub use memory::OutOfMemory;
 pub use name::is_name;
 pub use scalar::{BinOp, CastOp, Ext, Flags, FnType, Known, Pred, Scalar};

@@ -50,23 +50,6 @@ fn write_phis(
     Ok(number)
 }
 
-/// Whether an instruction has a result.
-fn has_result(inst: &Inst) -> bool
-    ensures { result ≡ is_some (result_type inst.now) }
-{
-    match inst {
-        Inst::Bin { .. } => true,
-        Inst::Icmp { .. } => true,
-        Inst::Select { .. } => true,
-        Inst::Cast { .. } => true,
-        Inst::Alloca { .. } => true,
-        Inst::Load { .. } => true,
-        Inst::Store { .. } => false,
-        Inst::Gep { .. } => true,
-        Inst::Call { fn_ty, .. } => fn_ty.returns.is_some(),
-    }
-}
-
 /// Adds the line of an instruction. If it has a result, that has this number.
 fn write_inst_line(
     out: &mut Bytes,
@@ -78,7 +61,7 @@ fn write_inst_line(
     ensures { OnOk result (out.new ≡ out.old ++ bytes_of (if is_some (result_type inst.now) then line (named number (inst_parts (map item_name items.now) inst.now)) else line (inst_parts (map item_name items.now) inst.now))) }
 {
     out.append(b"  ")?;
-    if has_result(inst) {
+    if inst.has_result() {
         write_local(out, b"%v", number)?;
         out.append(b" = ")?;
     }
@@ -101,7 +84,7 @@ fn write_insts(
     let mut number = first;
     for inst in insts {
         write_inst_line(out, items, number, inst)?;
-        if has_result(inst) {
+        if inst.has_result() {
             number += 1;
         }
     }

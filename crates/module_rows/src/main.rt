@@ -3,11 +3,14 @@
 //! them it prints the rows that have names, one line for each.
 #![tactic(auto)]
 
+mod bodies;
 mod named;
 mod rows;
 
+use crate::bodies::body_row;
 use crate::named::{NAMES, TEXTS, name_row};
 use crate::rows::{Row, row_of};
+use ir_types::OutOfMemory;
 use std::process::ExitCode;
 use std::rt::{Env, Files};
 use std::{env, fs, io};
@@ -33,6 +36,7 @@ fn run<R: Env + Files + Print + AllocGlobal>(rt: &R) -> io::Result<u8> {
         }
     };
     let text = fs::read_to_string(rt, name)?;
+    print_body(rt)?;
     print_names(rt)?;
     print_texts(rt)?;
     for piece in text.split(BETWEEN) {
@@ -40,6 +44,14 @@ fn run<R: Env + Files + Print + AllocGlobal>(rt: &R) -> io::Result<u8> {
         print_row(rt, &row_of(rt.alloc(), piece.as_bytes()))?;
     }
     Ok(0)
+}
+
+// What comes of a body between other tokens.
+fn print_body<R: Print + AllocGlobal>(rt: &R) -> io::Result<()> {
+    match body_row(rt.alloc()) {
+        Ok(row) => println!(rt; "bodies, between other tokens: {row:?}"),
+        Err(OutOfMemory) => println!(rt; "bodies, between other tokens: out of memory"),
+    }
 }
 
 // How each name of the table is written.

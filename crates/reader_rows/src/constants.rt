@@ -1,5 +1,6 @@
 //! Rows of `ir_constants`: constants of a module of the items `@f` and `@g`, and the type `%t`.
-use crate::row::{no_row, number_of, said};
+use crate::answer::Answer;
+use crate::row::number_of;
 use crate::words::{add_words, lexemes};
 use ir_constants::{constants_suit, read_constant};
 use ir_grammar::Lexeme;
@@ -8,13 +9,16 @@ use ir_types::{Bytes, List, OutOfMemory, Ty};
 use std::alloc::Global;
 
 /// What is found for a row.
-pub fn answer(alloc: Global, fields: &[&str]) -> Result<String, OutOfMemory> {
+pub fn answer(alloc: Global, fields: &[&str]) -> Result<Answer, OutOfMemory> {
     constants_suit();
     match fields {
         ["at", ty, words] => at(alloc, *ty, lexemes(alloc, *words)?.as_slice()),
-        ["steps", count] => steps(alloc, number_of(*count)),
-        ["long array", count] => long_array(alloc, number_of(*count)),
-        _ => no_row(alloc),
+        ["steps", count] => {
+            let kept = repeated(alloc, "gep i8", number_of(*count), "@g", "i64 1 )")?;
+            at(alloc, "ptr", kept.as_slice())
+        }
+        ["taken of a long array", count] => long_array(alloc, number_of(*count)),
+        _ => Ok(Answer::NoRow),
     }
 }
 
@@ -39,53 +43,52 @@ fn scope(alloc: Global) -> Result<Scope, OutOfMemory> {
     Ok(scope)
 }
 
-/// What lexemes spell at a type, all of them.
-fn at(alloc: Global, ty: &str, kept: &[Lexeme]) -> Result<String, OutOfMemory> {
+/// What lexemes spell at a type.
+fn at(alloc: Global, ty: &str, kept: &[Lexeme]) -> Result<Answer, OutOfMemory> {
     let scope = scope(alloc)?;
     let ty = match type_of(alloc, &scope, ty)? {
         Some(ty) => ty,
-        None => return said(alloc, "no type"),
+        None => return Ok(Answer::NoRow),
     };
     match read_constant(alloc, &scope, &ty, kept)? {
-        Some((constant, taken)) => {
-            if taken == kept.len() {
-                Ok(format!(in alloc; "{constant:?}")?)
-            } else {
-                Ok(format!(in alloc; "{constant:?} of {taken} lexemes")?)
-            }
-        }
-        None => said(alloc, "none"),
+        Some((constant, taken)) => Ok(Answer::Constant(constant, taken)),
+        None => Ok(Answer::None),
     }
 }
 
-/// The address that so many steps of a byte from `@g` lead to, each within the next.
-fn steps(alloc: Global, count: usize) -> Result<String, OutOfMemory> {
+/// Words so many times, the middle, and other words as many times.
+fn repeated<'a>(
+    alloc: Global,
+    before: &'a str,
+    times: usize,
+    middle: &'a str,
+    behind: &'a str,
+) -> Result<Vec<Lexeme<'a>>, OutOfMemory> {
     let mut kept = Vec::new(alloc);
-    for _ in 0..count {
-        add_words(&mut kept, "gep i8")?;
+    add_times(&mut kept, before, times)?;
+    add_words(&mut kept, middle)?;
+    add_times(&mut kept, behind, times)?;
+    Ok(kept)
+}
+
+fn add_times<'a>(
+    kept: &mut Vec<Lexeme<'a>>,
+    words: &'a str,
+    times: usize,
+) -> Result<(), OutOfMemory> {
+    for _ in 0..times {
+        add_words(kept, words)?;
     }
-    add_words(&mut kept, "@g")?;
-    for _ in 0..count {
-        add_words(&mut kept, "i64 1 )")?;
-    }
-    at(alloc, "ptr", kept.as_slice())
+    Ok(())
 }
 
 /// How many lexemes an array of 20,000 bytes takes that is written with so many.
-fn long_array(alloc: Global, count: usize) -> Result<String, OutOfMemory> {
-    let scope = scope(alloc)?;
-    let mut kept = Vec::new(alloc);
-    add_words(&mut kept, "[")?;
-    for _ in 0..count {
-        add_words(&mut kept, "i8 1")?;
-    }
+fn long_array(alloc: Global, count: usize) -> Result<Answer, OutOfMemory> {
+    let mut kept = lexemes(alloc, "[")?;
+    add_times(&mut kept, "i8 1", count)?;
     add_words(&mut kept, "]")?;
-    let ty = match type_of(alloc, &scope, "[ 20000 i8")? {
-        Some(ty) => ty,
-        None => return said(alloc, "no type"),
-    };
-    match read_constant(alloc, &scope, &ty, kept.as_slice())? {
-        Some((_, taken)) => Ok(format!(in alloc; "{taken} lexemes")?),
-        None => said(alloc, "none"),
+    match at(alloc, "[ 20000 i8", kept.as_slice())? {
+        Answer::Constant(_, taken) => Ok(Answer::Place(taken)),
+        other => Ok(other),
     }
 }

@@ -1,16 +1,17 @@
 //! Rows of `ir_grammar`.
-use crate::row::{bytes_of, no_row, number_of as count_of, said};
+use crate::answer::{Answer, number};
+use crate::row::{bytes_of, number_of as count_of};
 use ir_grammar::{Lexeme, Shape, Symbol, exponent_of, number_of, walk};
 use ir_lexer::{Kind, LexFault, Token, lex};
-use ir_types::{Bytes, OutOfMemory};
+use ir_types::{Bytes, List, OutOfMemory};
 use std::alloc::Global;
 
 /// What is found for a row.
-pub fn answer(alloc: Global, fields: &[&str]) -> Result<String, OutOfMemory> {
+pub fn answer(alloc: Global, fields: &[&str]) -> Result<Answer, OutOfMemory> {
     match fields {
         ["spelled", symbol, text] => {
             let text = bytes_of(alloc, *text)?;
-            said(alloc, spelled(alloc, symbol_of(*symbol), text.as_slice())?)
+            spelled(alloc, symbol_of(*symbol), text.as_slice())
         }
         ["kept", symbol, text] => {
             let text = bytes_of(alloc, *text)?;
@@ -18,32 +19,24 @@ pub fn answer(alloc: Global, fields: &[&str]) -> Result<String, OutOfMemory> {
         }
         ["deep", symbol, depth, open, middle, close] => {
             let text = nested(alloc, count_of(*depth), *open, *middle, *close)?;
-            said(alloc, spelled(alloc, symbol_of(*symbol), text.as_slice())?)
+            spelled(alloc, symbol_of(*symbol), text.as_slice())
         }
-        ["from", place] => from(alloc, count_of(*place)),
-        _ => number(alloc, fields),
+        _ => numbered(alloc, fields),
     }
 }
 
 /// What is found for a row about a number.
-fn number(alloc: Global, fields: &[&str]) -> Result<String, OutOfMemory> {
+fn numbered(alloc: Global, fields: &[&str]) -> Result<Answer, OutOfMemory> {
     match fields {
-        ["number", digits] => shown(alloc, number_of(digits.as_bytes())),
+        ["attributes from", place] => from(alloc, count_of(*place), Symbol::Attributes),
+        ["entity from", place] => from(alloc, count_of(*place), Symbol::Entity),
+        ["number", digits] => Ok(number(number_of(digits.as_bytes()))),
         ["nines", count] => {
             let text = nested(alloc, count_of(*count), "9", "", "")?;
-            shown(alloc, number_of(text.as_slice()))
+            Ok(number(number_of(text.as_slice())))
         }
-        ["exponent", digits] => {
-            shown(alloc, exponent_of(count_of(*digits) as u64).map(u64::from))
-        }
-        _ => no_row(alloc),
-    }
-}
-
-fn shown(alloc: Global, number: Option<u64>) -> Result<String, OutOfMemory> {
-    match number {
-        Some(number) => Ok(format!(in alloc; "{number}")?),
-        None => said(alloc, "none"),
+        ["exponent", digits] => Ok(number(exponent_of(count_of(*digits) as u64).map(u64::from))),
+        _ => Ok(Answer::NoRow),
     }
 }
 
@@ -58,33 +51,44 @@ fn symbol_of(word: &str) -> Symbol {
     }
 }
 
+/// The tokens of a text, where it has tokens.
+fn tokens_of(alloc: Global, text: &[u8]) -> Result<Option<List<Token>>, OutOfMemory> {
+    match lex(alloc, text) {
+        Ok(tokens) => Ok(Some(tokens)),
+        Err(LexFault::OutOfMemory) => Err(OutOfMemory),
+        Err(LexFault::BadByte { .. }) => Ok(None),
+    }
+}
+
 /// How much of a text a symbol spells: all of its tokens, a part of them, or none.
-fn spelled(alloc: Global, start: Symbol, text: &[u8]) -> Result<&'static str, OutOfMemory> {
-    let tokens = match lex(alloc, text) {
-        Ok(tokens) => tokens,
-        Err(LexFault::OutOfMemory) => return Err(OutOfMemory),
-        Err(LexFault::BadByte { .. }) => return Ok("no tokens"),
+fn spelled(alloc: Global, start: Symbol, text: &[u8]) -> Result<Answer, OutOfMemory> {
+    let tokens = match tokens_of(alloc, text)? {
+        Some(tokens) => tokens,
+        None => return Ok(Answer::NoRow),
     };
     match walk(alloc, text, tokens.as_slice(), 0, start)? {
-        Some((_, place)) => Ok(if place == tokens.len() {
-            "whole"
-        } else {
-            "part"
-        }),
-        None => Ok("none"),
+        Some((_, place)) => Ok(as_far(place, tokens.len())),
+        None => Ok(Answer::None),
+    }
+}
+
+fn as_far(place: usize, count: usize) -> Answer {
+    if place == count {
+        Answer::Whole
+    } else {
+        Answer::Part(place)
     }
 }
 
 /// The place behind what a symbol takes, and what it keeps.
-fn kept(alloc: Global, start: Symbol, text: &[u8]) -> Result<String, OutOfMemory> {
-    let tokens = match lex(alloc, text) {
-        Ok(tokens) => tokens,
-        Err(LexFault::OutOfMemory) => return Err(OutOfMemory),
-        Err(LexFault::BadByte { .. }) => return said(alloc, "no tokens"),
+fn kept(alloc: Global, start: Symbol, text: &[u8]) -> Result<Answer, OutOfMemory> {
+    let tokens = match tokens_of(alloc, text)? {
+        Some(tokens) => tokens,
+        None => return Ok(Answer::NoRow),
     };
     match walk(alloc, text, tokens.as_slice(), 0, start)? {
-        Some((kept, place)) => line_of(alloc, place, &kept),
-        None => said(alloc, "none"),
+        Some((kept, place)) => Ok(Answer::Kept(place, line_of(alloc, &kept)?)),
+        None => Ok(Answer::None),
     }
 }
 
@@ -98,23 +102,20 @@ fn role(shape: Shape) -> &'static str {
     }
 }
 
-fn line_of(alloc: Global, place: usize, kept: &[Lexeme]) -> Result<String, OutOfMemory> {
-    let mut line = format!(in alloc; "{place}")?;
+fn line_of(alloc: Global, kept: &[Lexeme]) -> Result<String, OutOfMemory> {
+    let mut line = String::new(alloc);
     for lexeme in kept {
         line.push_str(" ")?;
         line.push_str(role(lexeme.shape))?;
-        match str::from_utf8(lexeme.text) {
-            Ok(text) => line.push_str(text)?,
-            Err(_) => line.push_str("no text")?,
-        }
+        line.push_str(str::from_utf8(lexeme.text).unwrap_or("no text"))?;
     }
     Ok(line)
 }
 
-/// A part so many times.
-fn repeated(alloc: Global, text: &mut Bytes, depth: usize, part: &str) -> Result<(), OutOfMemory> {
+/// Adds a part so many times.
+fn repeat(alloc: Global, text: &mut Bytes, times: usize, part: &str) -> Result<(), OutOfMemory> {
     let part = bytes_of(alloc, part)?;
-    for _ in 0..depth {
+    for _ in 0..times {
         text.append(part.as_slice())?;
     }
     Ok(())
@@ -129,9 +130,9 @@ fn nested(
     close: &str,
 ) -> Result<Bytes, OutOfMemory> {
     let mut text = Bytes::new(alloc);
-    repeated(alloc, &mut text, depth, open)?;
-    repeated(alloc, &mut text, 1, middle)?;
-    repeated(alloc, &mut text, depth, close)?;
+    repeat(alloc, &mut text, depth, open)?;
+    repeat(alloc, &mut text, 1, middle)?;
+    repeat(alloc, &mut text, depth, close)?;
     Ok(text)
 }
 
@@ -154,15 +155,10 @@ const TOKENS: [Token; 3] = [
     },
 ];
 
-/// The place behind the attributes from a place on, and whether an entity stands there.
-fn from(alloc: Global, from: usize) -> Result<String, OutOfMemory> {
-    let text = b"i8 nounwind i16";
-    let entity = match walk(alloc, text, &TOKENS, from, Symbol::Entity)? {
-        Some(_) => "an entity",
-        None => "no entity",
-    };
-    match walk(alloc, text, &TOKENS, from, Symbol::Attributes)? {
-        Some((_, place)) => Ok(format!(in alloc; "{place}, {entity}")?),
-        None => Ok(format!(in alloc; "none, {entity}")?),
+/// The place behind what a symbol takes from a place on.
+fn from(alloc: Global, from: usize, start: Symbol) -> Result<Answer, OutOfMemory> {
+    match walk(alloc, b"i8 nounwind i16", &TOKENS, from, start)? {
+        Some((_, place)) => Ok(Answer::Place(place)),
+        None => Ok(Answer::None),
     }
 }

@@ -1,72 +1,62 @@
 //! Rows of `ir_lexer`.
-use crate::row::{bytes_of, field_of, no_row, said};
+use crate::answer::Answer;
+use crate::row::bytes_of;
 use ir_lexer::{LexFault, Token, decode, lex, undecoded, unescape};
-use ir_types::OutOfMemory;
+use ir_types::{Bytes, OutOfMemory};
 use std::alloc::Global;
 use std::mem::size_of;
 
 /// What is found for a row.
-pub fn answer(alloc: Global, fields: &[&str]) -> Result<String, OutOfMemory> {
+pub fn answer(alloc: Global, fields: &[&str]) -> Result<Answer, OutOfMemory> {
     match fields {
         ["tokens", text] => tokens(alloc, bytes_of(alloc, *text)?.as_slice()),
         ["bytes", text] => stands_for(alloc, bytes_of(alloc, *text)?.as_slice()),
         ["unescaped", text] => {
-            let bytes = unescape(alloc, bytes_of(alloc, *text)?.as_slice())?;
-            field_of(alloc, bytes.as_slice())
+            let text = bytes_of(alloc, *text)?;
+            Ok(Answer::Copy(unescape(alloc, text.as_slice())?))
         }
-        ["size of a token"] => Ok(format!(in alloc; "{}", size_of::<Token>())?),
-        _ => no_row(alloc),
+        ["size of a token"] => Ok(Answer::Place(size_of::<Token>())),
+        _ => Ok(Answer::NoRow),
     }
 }
 
 /// The tokens of a text, or its bad byte.
-fn tokens(alloc: Global, text: &[u8]) -> Result<String, OutOfMemory> {
+fn tokens(alloc: Global, text: &[u8]) -> Result<Answer, OutOfMemory> {
     match lex(alloc, text) {
-        Ok(tokens) => listed(alloc, tokens.as_slice()),
-        Err(LexFault::BadByte { at }) => Ok(format!(in alloc; "bad {at}")?),
+        Ok(tokens) => Ok(Answer::Tokens(tokens)),
+        Err(LexFault::BadByte { at }) => Ok(Answer::BadByte(at)),
         Err(LexFault::OutOfMemory) => Err(OutOfMemory),
     }
-}
-
-fn listed(alloc: Global, tokens: &[Token]) -> Result<String, OutOfMemory> {
-    let mut line = String::new(alloc);
-    for token in tokens {
-        let Token { kind, from, to } = *token;
-        if !line.is_empty() {
-            line.push(' ')?;
-        }
-        line.push_str(format!(in alloc; "{kind:?} {from}..{to}")?.as_str())?;
-    }
-    Ok(line)
 }
 
 /// What the one token of a text stands for, and whether its bytes stand in the text.
-fn stands_for(alloc: Global, text: &[u8]) -> Result<String, OutOfMemory> {
+fn stands_for(alloc: Global, text: &[u8]) -> Result<Answer, OutOfMemory> {
     match lex(alloc, text) {
         Ok(tokens) => match tokens.as_slice() {
             [token] => decoded(alloc, text, *token),
-            _ => said(alloc, "not one token"),
+            _ => Ok(Answer::NoRow),
         },
-        Err(LexFault::BadByte { .. }) => said(alloc, "bad byte"),
+        Err(LexFault::BadByte { at }) => Ok(Answer::BadByte(at)),
         Err(LexFault::OutOfMemory) => Err(OutOfMemory),
     }
 }
 
-fn decoded(alloc: Global, text: &[u8], token: Token) -> Result<String, OutOfMemory> {
+fn decoded(alloc: Global, text: &[u8], token: Token) -> Result<Answer, OutOfMemory> {
     if token.from > token.to || token.to > text.len() {
-        return said(alloc, "outside of the text");
+        return Ok(Answer::NoRow);
     }
     let bytes = decode(alloc, text, token)?;
-    let field = field_of(alloc, bytes.as_slice())?;
     match undecoded(text, token) {
-        Some(part) => {
-            let same = if part == bytes.as_slice() {
-                "in place"
-            } else {
-                "another in place"
-            };
-            Ok(format!(in alloc; "{same} {field}")?)
-        }
-        None => Ok(format!(in alloc; "a copy {field}")?),
+        Some(part) => in_place(part, bytes),
+        None => Ok(Answer::Copy(bytes)),
+    }
+}
+
+/// Bytes that stand in a text, where they are those that were decoded.
+fn in_place(part: &[u8], bytes: Bytes) -> Result<Answer, OutOfMemory> {
+    if part == bytes.as_slice() {
+        Ok(Answer::InPlace(bytes))
+    } else {
+        Ok(Answer::NoRow)
     }
 }

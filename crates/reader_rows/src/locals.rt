@@ -1,28 +1,20 @@
 //! Rows of `ir_locals`.
-use crate::row::{bytes_of, no_row, number_of, said};
+use crate::answer::{Answer, Local, is_so};
+use crate::row::{bytes_of, number_of};
 use ir_grammar::{Lexeme, Shape};
-use ir_locals::{Locals, decimal_name, is_decimal, is_name};
-use ir_syntax::Operand;
-use ir_types::{BinOp, Bytes, OutOfMemory, Scalar};
+use ir_locals::{Locals, decimal_name, is_decimal};
+use ir_types::{BinOp, Bytes, List, OutOfMemory, Scalar, is_name};
 use std::alloc::Global;
 
 /// What is found for a row.
-pub fn answer(alloc: Global, fields: &[&str]) -> Result<String, OutOfMemory> {
+pub fn answer(alloc: Global, fields: &[&str]) -> Result<Answer, OutOfMemory> {
     match fields {
         ["names", params, kept, asked] => names(alloc, *params, *kept, *asked),
-        ["name", text] => name(alloc, bytes_of(alloc, *text)?.as_slice()),
-        ["decimal", number] => match decimal_name(alloc, number_of(*number))?.as_slice() {
-            digits => shown(alloc, digits),
-        },
-        ["length", count] => length(alloc, number_of(*count)),
-        _ => no_row(alloc),
-    }
-}
-
-fn shown(alloc: Global, digits: &[u8]) -> Result<String, OutOfMemory> {
-    match str::from_utf8(digits) {
-        Ok(text) => said(alloc, text),
-        Err(_) => said(alloc, "no text"),
+        ["name", text] => Ok(name(bytes_of(alloc, *text)?.as_slice())),
+        ["decimal", number] => Ok(Answer::Copy(decimal_name(alloc, number_of(*number))?)),
+        ["name of length", count] => Ok(name(letters(alloc, number_of(*count))?.as_slice())),
+        ["parameter of length", count] => parameter(alloc, letters(alloc, number_of(*count))?),
+        _ => Ok(Answer::NoRow),
     }
 }
 
@@ -61,60 +53,52 @@ fn lexemes(alloc: Global, words: &str) -> Result<Vec<Lexeme<'_>>, OutOfMemory> {
 }
 
 /// What a written name stands for.
-fn stands_for(alloc: Global, locals: &Locals, text: &[u8]) -> Result<String, OutOfMemory> {
+fn stands_for(alloc: Global, locals: &Locals, text: &[u8]) -> Result<Local, OutOfMemory> {
     if let Some(place) = locals.block_of(alloc, text)? {
-        return Ok(format!(in alloc; "b{place}")?);
+        return Ok(Local::Block(place));
     }
     match locals.operand_of(alloc, text)? {
-        Some(Operand::Param(place)) => Ok(format!(in alloc; "p{place}")?),
-        Some(Operand::Reg(number)) => Ok(format!(in alloc; "r{number}")?),
-        Some(Operand::Const(_)) => said(alloc, "const"),
-        None => said(alloc, "-"),
+        Some(operand) => Ok(Local::Operand(operand)),
+        None => Ok(Local::Nothing),
     }
 }
 
 /// What the asked names stand for in a function with these parameters and kept tokens.
-fn names(alloc: Global, params: &str, kept: &str, asked: &str) -> Result<String, OutOfMemory> {
+fn names(alloc: Global, params: &str, kept: &str, asked: &str) -> Result<Answer, OutOfMemory> {
     let params = params_of(alloc, params)?;
     let kept = lexemes(alloc, kept)?;
     match Locals::of(alloc, params.as_slice(), kept.as_slice())? {
-        Some(locals) => all(alloc, &locals, asked),
-        None => said(alloc, "refused"),
+        Some(locals) => Ok(Answer::Locals(all(alloc, &locals, asked)?)),
+        None => Ok(Answer::None),
     }
 }
 
-fn all(alloc: Global, locals: &Locals, asked: &str) -> Result<String, OutOfMemory> {
-    let mut line = String::new(alloc);
+fn all(alloc: Global, locals: &Locals, asked: &str) -> Result<List<Local>, OutOfMemory> {
+    let mut found = List::new(alloc);
     for word in asked.split_ascii_whitespace() {
-        if !line.is_empty() {
-            line.push(' ')?;
-        }
-        line.push_str(stands_for(alloc, locals, word.as_bytes())?.as_str())?;
+        found.push(stands_for(alloc, locals, word.as_bytes())?)?;
     }
-    Ok(line)
+    Ok(found)
 }
 
-fn name(alloc: Global, text: &[u8]) -> Result<String, OutOfMemory> {
-    let named = if is_name(text) { "a name" } else { "no name" };
-    let decimal = if is_decimal(text) {
-        "decimal"
+fn name(text: &[u8]) -> Answer {
+    let decimal = is_decimal(text);
+    if is_name(text) {
+        Answer::Name { decimal }
     } else {
-        "not decimal"
-    };
-    Ok(format!(in alloc; "{named}, {decimal}")?)
+        Answer::NoName { decimal }
+    }
 }
 
-/// Whether so many bytes are a name, and one of a parameter.
-fn length(alloc: Global, count: usize) -> Result<String, OutOfMemory> {
+/// So many letters.
+fn letters(alloc: Global, count: usize) -> Result<Bytes, OutOfMemory> {
+    Ok(Bytes::from_vec(vec![in alloc; b'a'; count]?))
+}
+
+/// Whether a function may have a parameter of this name.
+fn parameter(alloc: Global, name: Bytes) -> Result<Answer, OutOfMemory> {
     let mut params = Vec::new(alloc);
-    params.push(Bytes::from_vec(vec![in alloc; b'a'; count]?))?;
-    let named = if is_name(params[0].as_slice()) {
-        "a name"
-    } else {
-        "no name"
-    };
-    match Locals::of(alloc, params.as_slice(), &[])? {
-        Some(_) => Ok(format!(in alloc; "{named}, a parameter")?),
-        None => Ok(format!(in alloc; "{named}, refused")?),
-    }
+    params.push(name)?;
+    let found = Locals::of(alloc, params.as_slice(), &[])?;
+    Ok(is_so(found.is_some()))
 }

@@ -2,7 +2,7 @@
 //! found for it.
 #![tactic(auto)]
 
-mod bodies;
+mod answer;
 mod constants;
 mod grammar;
 mod lexer;
@@ -12,6 +12,7 @@ mod scopes;
 mod types;
 mod words;
 
+use crate::answer::Answer;
 use crate::row::{Row, rows_of};
 use ir_types::OutOfMemory;
 use std::alloc::Global;
@@ -37,17 +38,21 @@ fn run<R: Env + Files + Print + AllocGlobal>(rt: &R) -> io::Result<u8> {
         }
     };
     let text = fs::read_to_string(rt, name)?;
-    let rows = match rows_of(rt.alloc(), text.as_str()) {
-        Ok(rows) => rows,
+    match rows_of(rt.alloc(), text.as_str()) {
+        Ok(rows) => print_rows(rt, rows.as_slice()),
         Err(OutOfMemory) => {
             println!(rt; "refused memory")?;
-            return Ok(3);
+            Ok(3)
         }
-    };
-    for row in &rows {
+    }
+}
+
+// Each row, and what is found for it.
+fn print_rows<R: Print + AllocGlobal>(rt: &R, rows: &[Row]) -> io::Result<u8> {
+    for row in rows {
         let line = row.line;
-        match answer(rt.alloc(), rows.as_slice(), row) {
-            Ok(found) => println!(rt; "{line}: {found}")?,
+        match found(rt.alloc(), rows, row) {
+            Ok(answer) => println!(rt; "{line}: {answer:?}")?,
             Err(OutOfMemory) => println!(rt; "{line}: out of memory")?,
         }
     }
@@ -55,7 +60,7 @@ fn run<R: Env + Files + Print + AllocGlobal>(rt: &R) -> io::Result<u8> {
 }
 
 // What is found for one row. The first word of a row is the crate that it tries.
-fn answer(alloc: Global, rows: &[Row], row: &Row) -> Result<String, OutOfMemory> {
+fn found(alloc: Global, rows: &[Row], row: &Row) -> Result<Answer, OutOfMemory> {
     match row.fields.as_slice() {
         ["lexer", rest @ ..] => lexer::answer(alloc, rest),
         ["grammar", rest @ ..] => grammar::answer(alloc, rest),
@@ -63,8 +68,7 @@ fn answer(alloc: Global, rows: &[Row], row: &Row) -> Result<String, OutOfMemory>
         ["constants", rest @ ..] => constants::answer(alloc, rest),
         ["locals", rest @ ..] => locals::answer(alloc, rest),
         ["types", rest @ ..] => types::answer(alloc, rows, rest),
-        ["body", rest @ ..] => bodies::answer(alloc, rest),
-        _ => row::no_row(alloc),
+        _ => Ok(Answer::NoRow),
     }
 }
 

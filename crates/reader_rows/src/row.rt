@@ -29,16 +29,6 @@ fn fields_of(alloc: Global, line: &str) -> Result<Vec<&str>, OutOfMemory> {
     Ok(fields)
 }
 
-/// What is said of a row that tries nothing.
-pub fn no_row(alloc: Global) -> Result<String, OutOfMemory> {
-    said(alloc, "no row")
-}
-
-/// A text of its own.
-pub fn said(alloc: Global, text: &str) -> Result<String, OutOfMemory> {
-    Ok(format!(in alloc; "{text}")?)
-}
-
 /// The value of a hexadecimal digit.
 fn digit(byte: u8) -> u8 {
     match byte {
@@ -48,36 +38,43 @@ fn digit(byte: u8) -> u8 {
     }
 }
 
-/// The bytes that a field stands for.
-pub fn bytes_of(alloc: Global, field: &str) -> Result<Bytes, OutOfMemory> {
-    let mut bytes = Bytes::new(alloc);
-    let mut rest = field.as_bytes();
-    loop {
-        rest = match rest {
-            [b'~', high, low, more @ ..] => {
-                bytes.push(digit(*high).wrapping_mul(16).wrapping_add(digit(*low)))?;
-                more
+/// What stands before a byte of a field.
+#[derive(Clone, Copy)]
+enum Before {
+    /// Nothing that counts.
+    Nothing,
+    /// `~`.
+    Sign,
+    /// `~` and a digit.
+    Digit(u8),
+}
+
+/// Adds what one more byte of a field stands for, and says what stands before the next.
+fn add(bytes: &mut Bytes, before: Before, byte: u8) -> Result<Before, OutOfMemory> {
+    match before {
+        Before::Sign => Ok(Before::Digit(digit(byte))),
+        Before::Digit(high) => {
+            bytes.push(high.wrapping_mul(16).wrapping_add(digit(byte)))?;
+            Ok(Before::Nothing)
+        }
+        Before::Nothing => {
+            if byte == b'~' {
+                return Ok(Before::Sign);
             }
-            [byte, more @ ..] => {
-                bytes.push(*byte)?;
-                more
-            }
-            [] => return Ok(bytes),
-        };
+            bytes.push(byte)?;
+            Ok(Before::Nothing)
+        }
     }
 }
 
-/// Bytes as a field: those that aren't printable ASCII, the sign `~`, and a blank at an end are written as `~20`.
-pub fn field_of(alloc: Global, bytes: &[u8]) -> Result<String, OutOfMemory> {
-    let mut field = String::new(alloc);
-    for byte in bytes {
-        if (33..=125).contains(byte) {
-            field.push(char::from(*byte))?;
-        } else {
-            field.push_str(format!(in alloc; "~{byte:02x}")?.as_str())?;
-        }
+/// The bytes that a field stands for.
+pub fn bytes_of(alloc: Global, field: &str) -> Result<Bytes, OutOfMemory> {
+    let mut bytes = Bytes::new(alloc);
+    let mut before = Before::Nothing;
+    for byte in field.as_bytes() {
+        before = add(&mut bytes, before, *byte)?;
     }
-    Ok(field)
+    Ok(bytes)
 }
 
 /// The number that a field writes, or 0.

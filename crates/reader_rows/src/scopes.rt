@@ -1,5 +1,6 @@
 //! Rows of `ir_scope`.
-use crate::row::{no_row, number_of, said};
+use crate::answer::{Answer, is_so, number, place};
+use crate::row::number_of;
 use crate::words::{lexemes, scalar};
 use ir_scope::{
     Scope, ScopeFault, extend, read_number, read_type, same_type, same_type_is_equality,
@@ -8,41 +9,31 @@ use ir_types::{Bytes, List, OutOfMemory, Scalar, Ty};
 use std::alloc::Global;
 
 /// What is found for a row.
-pub fn answer(alloc: Global, fields: &[&str]) -> Result<String, OutOfMemory> {
+pub fn answer(alloc: Global, fields: &[&str]) -> Result<Answer, OutOfMemory> {
     match fields {
-        ["integer", ty, text] => integer(alloc, scalar(*ty), *text),
-        ["extended", ty, text] => extended(alloc, scalar(*ty), *text),
+        ["integer", ty, text] => Ok(number(integer(alloc, scalar(*ty), *text)?)),
+        ["extended", ty, text] => Ok(number(extended(alloc, scalar(*ty), *text)?)),
         ["doubled", one, other] => doubled(alloc, *one, *other),
         _ => look_up(alloc, fields),
     }
 }
 
-fn place(alloc: Global, found: Option<usize>) -> Result<String, OutOfMemory> {
-    match found {
-        Some(place) => Ok(format!(in alloc; "{place}")?),
-        None => said(alloc, "none"),
-    }
-}
-
-/// What stands for a number of a type.
-fn integer(alloc: Global, ty: Scalar, text: &str) -> Result<String, OutOfMemory> {
+/// The number of a type.
+fn integer(alloc: Global, ty: Scalar, text: &str) -> Result<Option<u64>, OutOfMemory> {
     match lexemes(alloc, text)?.as_slice() {
-        [lexeme, ..] => match read_number(ty, lexeme) {
-            Some(number) => Ok(format!(in alloc; "{number}")?),
-            None => said(alloc, "none"),
-        },
-        [] => no_row(alloc),
+        [lexeme, ..] => Ok(read_number(ty, lexeme)),
+        [] => Ok(None),
     }
 }
 
 /// A number of a type at 64 bits.
-fn extended(alloc: Global, ty: Scalar, text: &str) -> Result<String, OutOfMemory> {
+fn extended(alloc: Global, ty: Scalar, text: &str) -> Result<Option<u64>, OutOfMemory> {
     match lexemes(alloc, text)?.as_slice() {
         [lexeme, ..] => match read_number(ty, lexeme) {
-            Some(number) => Ok(format!(in alloc; "{}", extend(ty, number))?),
-            None => said(alloc, "none"),
+            Some(number) => Ok(Some(extend(ty, number))),
+            None => Ok(None),
         },
-        [] => no_row(alloc),
+        [] => Ok(None),
     }
 }
 
@@ -56,33 +47,25 @@ fn scope(alloc: Global) -> Result<Scope, OutOfMemory> {
 }
 
 /// What is found in that scope.
-fn look_up(alloc: Global, fields: &[&str]) -> Result<String, OutOfMemory> {
+fn look_up(alloc: Global, fields: &[&str]) -> Result<Answer, OutOfMemory> {
     let scope = scope(alloc)?;
     same_type_is_equality();
     match fields {
-        ["symbol", name] => place(alloc, scope.lookup_symbol(name.as_bytes())),
-        ["type", name] => match scope.lookup_type(name.as_bytes()) {
-            Some(_) => said(alloc, "some"),
-            None => said(alloc, "none"),
-        },
-        ["intrinsic", place] => {
-            Ok(format!(in alloc; "{}", scope.is_intrinsic(number_of(*place)))?)
-        }
-        ["symbol count"] => Ok(format!(in alloc; "{}", scope.symbol_count())?),
-        ["pointers", words] => pointers(alloc, &scope, *words),
-        _ => no_row(alloc),
+        ["symbol", name] => Ok(place(scope.lookup_symbol(name.as_bytes()))),
+        ["type", name] => Ok(is_so(scope.lookup_type(name.as_bytes()).is_some())),
+        ["intrinsic", place] => Ok(is_so(scope.is_intrinsic(number_of(*place)))),
+        ["symbol count"] => Ok(Answer::Place(scope.symbol_count())),
+        ["two pointers", words] => two_pointers(alloc, &scope, *words),
+        _ => Ok(Answer::NoRow),
     }
 }
 
 /// Whether words are read, all of them, as an array of two pointers.
-fn pointers(alloc: Global, scope: &Scope, words: &str) -> Result<String, OutOfMemory> {
+fn two_pointers(alloc: Global, scope: &Scope, words: &str) -> Result<Answer, OutOfMemory> {
     let kept = lexemes(alloc, words)?;
     match read_type(alloc, scope, kept.as_slice())? {
-        Some((ty, taken)) => {
-            let whole = taken == kept.len();
-            Ok(format!(in alloc; "{}", whole && are_two_pointers(&ty))?)
-        }
-        None => said(alloc, "none"),
+        Some((ty, taken)) => Ok(is_so(taken == kept.len() && are_two_pointers(&ty))),
+        None => Ok(Answer::None),
     }
 }
 
@@ -95,13 +78,13 @@ fn are_two_pointers(ty: &Ty) -> bool {
 }
 
 /// The place of the first doubled name of a scope of two symbols.
-fn doubled(alloc: Global, one: &str, other: &str) -> Result<String, OutOfMemory> {
+fn doubled(alloc: Global, one: &str, other: &str) -> Result<Answer, OutOfMemory> {
     let mut symbols = List::new(alloc);
     symbols.push(Bytes::from_slice(alloc, one.as_bytes())?)?;
     symbols.push(Bytes::from_slice(alloc, other.as_bytes())?)?;
     match Scope::new(alloc, List::new(alloc), symbols) {
-        Ok(_) => said(alloc, "none"),
-        Err(ScopeFault::Doubled { at }) => place(alloc, Some(at)),
+        Ok(_) => Ok(Answer::None),
+        Err(ScopeFault::Doubled { at }) => Ok(Answer::Place(at)),
         Err(ScopeFault::OutOfMemory) => Err(OutOfMemory),
     }
 }

@@ -1,29 +1,38 @@
 //! Rows of `type_names`: tables of named types, each with its place, its name and what is written for it.
-use crate::row::{Row, bytes_of, no_row, number_of};
+use crate::answer::{Answer, Stands};
+use crate::row::{Row, bytes_of, number_of};
 use crate::words::lexemes;
 use ir_grammar::Lexeme;
 use ir_scope::{Scope, read_type, same_type};
-use ir_types::{List, OutOfMemory, Ty};
+use ir_types::{Bytes, List, OutOfMemory, Ty};
 use std::alloc::Global;
 use type_names::{ExpandedTypes, NamedType, expand_types, type_names_fit};
 
-/// What is found for a row: whether a name stands for the type that is asked for, or for any where `-` is, and whether a
-/// module may have the entity.
-pub fn answer(alloc: Global, rows: &[Row], fields: &[&str]) -> Result<String, OutOfMemory> {
+/// What stands in a row of a table.
+#[derive(Drop)]
+struct Named<'a> {
+    name: Bytes,
+    written: Vec<Lexeme<'a>>,
+}
+
+/// What is found for a row: what a name stands for, beside the type that is asked for, and whether a module may have the
+/// entity.
+pub fn answer(alloc: Global, rows: &[Row], fields: &[&str]) -> Result<Answer, OutOfMemory> {
     type_names_fit();
     match fields {
         [table, place, name, _, asked] => {
-            let found = expanded(alloc, rows, *table)?;
+            let found = expanded(alloc, table_of(alloc, rows, *table)?.as_slice())?;
             let name = bytes_of(alloc, *name)?;
-            let stands = stands_for(alloc, &found.scope, name.as_slice(), *asked)?;
-            let entity = entity(found.entities.as_slice(), number_of(*place));
-            Ok(format!(in alloc; "{stands}, {entity}")?)
+            Ok(Answer::Type {
+                stands: stands_for(alloc, &found.scope, name.as_slice(), *asked)?,
+                entity: entity(found.entities.as_slice(), number_of(*place)),
+            })
         }
-        _ => no_row(alloc),
+        _ => Ok(Answer::NoRow),
     }
 }
 
-/// What stands in a row of a table: a name, and what is written for it.
+/// The name of a row of a table, and what is written for it.
 fn named_in<'a>(row: &Row<'a>, wanted: &str) -> Option<(&'a str, &'a str)> {
     match row.fields.as_slice() {
         ["types", table, _, name, written, _] if *table == wanted => Some((*name, *written)),
@@ -31,36 +40,32 @@ fn named_in<'a>(row: &Row<'a>, wanted: &str) -> Option<(&'a str, &'a str)> {
     }
 }
 
-/// The lexemes that are written in each row of a table.
-fn written_in<'a>(
+/// The rows of a table, in order.
+fn table_of<'a>(
     alloc: Global,
     rows: &[Row<'a>],
     table: &str,
-) -> Result<Vec<Vec<Lexeme<'a>>>, OutOfMemory> {
-    let mut written = Vec::new(alloc);
+) -> Result<Vec<Named<'a>>, OutOfMemory> {
+    let mut named = Vec::new(alloc);
     for row in rows {
-        if let Some((_, words)) = named_in(row, table) {
-            written.push(lexemes(alloc, words)?)?;
+        if let Some((name, words)) = named_in(row, table) {
+            named.push(Named {
+                name: bytes_of(alloc, name)?,
+                written: lexemes(alloc, words)?,
+            })?;
         }
     }
-    Ok(written)
+    Ok(named)
 }
 
 /// What the types of a table stand for.
-fn expanded(alloc: Global, rows: &[Row], table: &str) -> Result<ExpandedTypes, OutOfMemory> {
-    let written = written_in(alloc, rows, table)?;
+fn expanded(alloc: Global, table: &[Named]) -> Result<ExpandedTypes, OutOfMemory> {
     let mut types = Vec::new(alloc);
-    for row in rows {
-        if let Some((name, _)) = named_in(row, table) {
-            let kept = match written.get(types.len()) {
-                Some(kept) => kept.as_slice(),
-                None => &[],
-            };
-            types.push(NamedType {
-                name: bytes_of(alloc, name)?,
-                written: kept,
-            })?;
-        }
+    for named in table {
+        types.push(NamedType {
+            name: Bytes::from_slice(alloc, named.name.as_slice())?,
+            written: named.written.as_slice(),
+        })?;
     }
     expand_types(alloc, types.as_slice(), List::new(alloc))
 }
@@ -75,34 +80,36 @@ fn spelled(alloc: Global, words: &str) -> Result<Option<Ty>, OutOfMemory> {
     }
 }
 
+/// What a name stands for. Where no type is asked for, any is another.
 fn stands_for(
     alloc: Global,
     scope: &Scope,
     name: &[u8],
     asked: &str,
-) -> Result<&'static str, OutOfMemory> {
-    let found = scope.lookup_type(name);
-    if asked == "-" {
-        return Ok(if found.is_some() { "a type" } else { "nothing" });
+) -> Result<Stands, OutOfMemory> {
+    let asked = spelled(alloc, asked)?;
+    match scope.lookup_type(name) {
+        Some(ty) => Ok(beside(ty, &asked)),
+        None => Ok(Stands::ForNothing),
     }
-    Ok(match (found, spelled(alloc, asked)?) {
-        (Some(ty), Some(asked)) => {
-            if same_type(ty, &asked) {
-                "this type"
-            } else {
-                "another type"
-            }
-        }
-        (None, None) => "nothing",
-        (Some(_), None) => "a type",
-        (None, Some(_)) => "no type",
-    })
 }
 
-fn entity(entities: &[bool], place: usize) -> &'static str {
+fn beside(ty: &Ty, asked: &Option<Ty>) -> Stands {
+    match asked {
+        Some(asked) => {
+            if same_type(ty, asked) {
+                Stands::ForThis
+            } else {
+                Stands::ForAnother
+            }
+        }
+        None => Stands::ForAnother,
+    }
+}
+
+fn entity(entities: &[bool], place: usize) -> bool {
     match entities.get(place) {
-        Some(true) => "an entity",
-        Some(false) => "refused",
-        None => "no place",
+        Some(entity) => *entity,
+        None => false,
     }
 }

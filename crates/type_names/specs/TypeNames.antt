@@ -8,7 +8,7 @@ use Rattle.ir_grammar.specs.declared.shape.Shape.TheVariants as is
 use Rattle.ir_grammar.specs.Walk.{Kept}
 use Rattle.ir_scope.specs.Scopes.{is_at}
 use Rattle.ir_scope.specs.Types.{written_type}
-use Rattle.ir_locals.specs.Locals.{is_name}
+use Rattle.ir_types.specs.Names.{is_name}
 
 -- a named type: its name, and what is written for it
 abbrev pub Named : Type 0

@@ -2,7 +2,7 @@
 ghost use Rattle.std.specs.Prelude.{◌≡◌, ◌&&◌, ◌||◌, ℕ, List, is_some, IfOk};
 ghost use Rattle.name_table.specs.Places.{place_among};
 ghost use Rattle.ir_grammar.specs.Walk.{seen};
-ghost use Rattle.ir_locals.specs.Locals.{is_name};
+ghost use Rattle.ir_types.specs.Names.{is_name};
 ghost use Rattle.ir_scope.specs.Scopes.{type_among, is_at};
 ghost use Rattle.type_names.specs.TypeNames.{is_opaque, stands_for};
 ghost use Rattle.type_names.specs.Written.{named, names_of, type_entities};
@@ -10,9 +10,8 @@ ghost use Rattle.type_names.specs.Written.{named, names_of, type_entities};
 use crate::learn::is_first;
 use crate::named::NamedType;
 use ir_grammar::{Lexeme, Shape};
-use ir_locals::is_name;
 use ir_scope::Scope;
-use ir_types::OutOfMemory;
+use ir_types::{OutOfMemory, is_name};
 use std::alloc::Global;
 
 /// Whether `opaque` is written.

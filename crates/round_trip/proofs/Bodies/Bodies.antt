@@ -16,7 +16,7 @@ use Rattle.ir_syntax.specs.FormedBody.{FormedBody}
 use Rattle.ir_grammar.specs.Walk.{Kept}
 use Rattle.ir_scope.specs.Scopes.{Env}
 use Rattle.ir_locals.specs.Locals.{has_result, result_name, results_from, is_label, label_names, begins_labelled, are_locals}
-use Rattle.ir_body.specs.Operands.{Names}
+use Rattle.ir_operands.specs.Operands.{Names}
 use Rattle.ir_body.specs.Lines.{Line, OfPhi, OfInst, Ends}
 use Rattle.ir_body.specs.Bodies.{blocks_from, body_of, results_in, blocks_in, is_counted, is_body, bounded, lines_at, body_with, body_at}
 use Rattle.round_trip.proofs.Grammar.Kept.{close_brace_kept, body_kept}

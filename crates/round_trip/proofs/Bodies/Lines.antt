@@ -19,7 +19,7 @@ use Rattle.ir_grammar.specs.Walk.{Kept}
 use Rattle.ir_scope.specs.Runs.{runs, begins_with, closed_by}
 use Rattle.ir_scope.specs.Types.{is_close_brace}
 use Rattle.ir_scope.proofs.Runs.{runs-step}
-use Rattle.ir_body.specs.Operands.{Names}
+use Rattle.ir_operands.specs.Operands.{Names}
 use Rattle.ir_body.specs.Lines.{Line, Labelled, OfPhi, OfInst, Ends, line_at}
 use Rattle.ir_body.specs.Bodies.{lines_at}
 use Rattle.round_trip.proofs.Grammar.Kept.{close_brace_kept, inst_kept, phi_kept, term_kept, named_kept, phi_lines_kept, inst_lines_kept, block_kept, blocks_kept}

@@ -12,8 +12,9 @@ use Rattle.ir_grammar.specs.declared.shape.Digits.TheVariants.{Power, Count, Oth
 use Rattle.ir_grammar.specs.Numbers.{digits_shape, number_of, exponent_of}
 use Rattle.ir_scope.specs.Runs.{Reading, begins_with}
 use Rattle.ir_scope.specs.Integers.{number}
-use Rattle.ir_body.specs.Operands.{align_at, aligned}
-use Rattle.ir_body.specs.Lines.{count_at, is_integer, is_open_square}
+use Rattle.ir_operands.specs.Operands.{align_at, aligned}
+use Rattle.ir_insts.specs.Insts.{count_at, is_integer}
+use Rattle.ir_terms.specs.Terms.{is_open_square}
 use Rattle.ir_writer.specs.Words.{scalar_text}
 use Rattle.round_trip.proofs.Grammar.Kept.{Lexemes, integer_kept, align_kept, count_kept}
 

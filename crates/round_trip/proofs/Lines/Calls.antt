@@ -17,8 +17,9 @@ use Rattle.ir_syntax.specs.declared.body.Inst.TheVariants as inst
 use Rattle.ir_syntax.specs.FormedBody.{Places, IsOperand, EndsInFalse, FormedCall}
 use Rattle.ir_scope.specs.Runs.{behind, runs}
 use Rattle.ir_constants.specs.Constants.{is_close_paren}
-use Rattle.ir_body.specs.Operands.{Names, operand_at}
-use Rattle.ir_body.specs.Calls.{ext_at, arg_at, args_at, calls_intrinsic, is_zero, is_false, ends_in_false, is_call, call_type, made_call, callee_at, void_callee_at, returning_at, whole_at, call_at}
+use Rattle.ir_operands.specs.Operands.{Names, operand_at}
+use Rattle.ir_operands.specs.Marks.{ext_at}
+use Rattle.ir_calls.specs.Calls.{arg_at, args_at, calls_intrinsic, is_zero, is_false, ends_in_false, is_call, call_type, made_call, callee_at, void_callee_at, returning_at, whole_at, call_at}
 use Rattle.ir_writer.specs.Ranges.{is_operand_in_range}
 use Rattle.round_trip.proofs.Grammar.Kept.{Lexemes, joined, operand_kept, ext_kept, arg_kept, close_paren_kept, call_returned_kept}
 use Rattle.round_trip.proofs.Constants.Runs.{IsReadBack, runs_back}

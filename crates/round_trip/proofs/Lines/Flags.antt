@@ -10,8 +10,8 @@ use Rattle.ir_types.specs.declared.scalar.CastOp.TheVariants.{Zext, Sext, Trunc}
 use Rattle.ir_types.specs.declared.scalar.Flags.{Flags}
 use Rattle.ir_syntax.specs.FormedBody.{AllowsFlags, may_wrap, may_be_exact, may_be_disjoint}
 use Rattle.ir_grammar.specs.declared.shape.Flag.TheVariants as flag
-use Rattle.ir_body.specs.Operands.{flags_at, allows, nneg_at, allows_nneg, inbounds_at}
-use Rattle.ir_body.specs.Calls.{ext_at}
+use Rattle.ir_operands.specs.Operands.{flags_at, allows, nneg_at, allows_nneg, inbounds_at}
+use Rattle.ir_operands.specs.Marks.{ext_at}
 use Rattle.round_trip.proofs.Grammar.Kept.{Lexemes, scalar_kept, flag_kept, flags_kept, ext_kept}
 
 abbrev made : Bool → Bool → Bool → Bool → Flags

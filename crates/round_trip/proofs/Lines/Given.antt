@@ -20,8 +20,8 @@ use Rattle.ir_grammar.specs.Shapes.{at_shape}
 use Rattle.ir_scope.specs.Scopes.{is_at, is_intrinsic_place}
 use Rattle.ir_scope.specs.Integers.{number}
 use Rattle.ir_scope.specs.Types.{written_type}
-use Rattle.ir_body.specs.Operands.{Names}
-use Rattle.ir_body.specs.Calls.{is_intrinsic_constant, calls_intrinsic}
+use Rattle.ir_operands.specs.Operands.{Names}
+use Rattle.ir_calls.specs.Calls.{is_intrinsic_constant, calls_intrinsic}
 use Rattle.ir_writer.specs.Ranges.{is_type_in_range}
 use Rattle.round_trip.proofs.Grammar.Kept.{Lexemes, type_kept, integer_kept}
 use Rattle.round_trip.proofs.Lines.Operands.{is_debug, NoDebug}

@@ -21,9 +21,9 @@ use Rattle.ir_grammar.specs.declared.shape.Free.TheVariants as free
 use Rattle.ir_grammar.specs.declared.shape.Shape.TheVariants as is
 use Rattle.ir_scope.specs.Runs.{Reading, runs}
 use Rattle.ir_scope.specs.Types.{written_type}
-use Rattle.ir_body.specs.Operands.{Names, operand_at, then_at, typed, pair_at, flags_at, allows, nneg_at, allows_nneg, inbounds_at}
-use Rattle.ir_body.specs.Calls.{scalar_at}
-use Rattle.ir_body.specs.Lines.{bin_at, icmp_at, select_at, cast_at, count_at, made_alloca, alloca_at, made_load, load_at, made_store, store_at, is_integer, made_gep, gep_at}
+use Rattle.ir_operands.specs.Operands.{Names, operand_at, then_at, typed, pair_at, flags_at, allows, nneg_at, allows_nneg, inbounds_at}
+use Rattle.ir_operands.specs.Marks.{scalar_at}
+use Rattle.ir_insts.specs.Insts.{bin_at, icmp_at, select_at, cast_at, count_at, made_alloca, alloca_at, made_load, load_at, made_store, store_at, is_integer, made_gep, gep_at}
 use Rattle.ir_writer.specs.Words.{pred_text}
 use Rattle.ir_writer.specs.Ranges.{is_type_in_range, is_operand_in_range, is_inst_in_range}
 use Rattle.round_trip.proofs.Grammar.Kept.{Lexemes, joined, scalar_kept, type_kept, operand_kept, typed_kept, pair_kept, align_kept, flag_kept, flags_kept, count_kept}

@@ -17,7 +17,7 @@ use Rattle.ir_grammar.specs.declared.shape.Shape.TheVariants as is
 use Rattle.ir_grammar.specs.declared.shape.Free.TheVariants as free
 use Rattle.ir_grammar.specs.declared.shape.Flag.TheVariants as flag
 use Rattle.ir_scope.specs.Runs.{behind}
-use Rattle.ir_body.specs.Operands.{Names}
+use Rattle.ir_operands.specs.Operands.{Names}
 use Rattle.ir_body.specs.Lines.{Line, OfPhi, OfInst, Ends, inst_line, term_line, dropped_or, verb_at, line_at}
 use Rattle.ir_writer.specs.Words.{op_text, cast_text, pred_text}
 use Rattle.ir_writer.specs.Ranges.{is_operand_in_range, is_inst_in_range, is_phi_in_range, is_term_in_range}

@@ -16,8 +16,8 @@ use Rattle.ir_scope.specs.Types.{written_type}
 use Rattle.ir_constants.specs.Constants.{constant_at}
 use Rattle.ir_locals.specs.declared.local.Local.TheVariants.{Param, Reg, Block}
 use Rattle.ir_locals.specs.Locals.{local_name, local_among, operand_in, block_in}
-use Rattle.ir_body.specs.Operands.{Names, operand_at, block_at}
-use Rattle.ir_body.specs.Calls.{calls_intrinsic}
+use Rattle.ir_operands.specs.Operands.{Names, operand_at, block_at}
+use Rattle.ir_calls.specs.Calls.{calls_intrinsic}
 use Rattle.ir_writer.specs.Instructions.{param_text, result_text, block_text}
 use Rattle.ir_writer.specs.Ranges.{is_type_in_range, is_constant_in_range, is_operand_in_range}
 use Rattle.round_trip.proofs.Grammar.Kept.{Lexemes, type_kept, integer_kept, constant_kept, operand_kept, block_kept_name}

@@ -24,8 +24,9 @@ use Rattle.ir_grammar.specs.declared.shape.Shape.TheVariants as is
 use Rattle.ir_grammar.specs.declared.shape.Value.TheVariants as val
 use Rattle.ir_grammar.specs.Shapes.{at_shape}
 use Rattle.ir_scope.specs.Runs.{begins_with}
-use Rattle.ir_body.specs.Operands.{Names, inbounds_at}
-use Rattle.ir_body.specs.Calls.{ext_at, whole_at, callee_at, void_callee_at}
+use Rattle.ir_operands.specs.Operands.{Names, inbounds_at}
+use Rattle.ir_operands.specs.Marks.{ext_at}
+use Rattle.ir_calls.specs.Calls.{whole_at, callee_at, void_callee_at}
 use Rattle.ir_writer.specs.Names.{name_at}
 use Rattle.round_trip.proofs.Grammar.Kept.{Lexemes, type_kept, type_kept_step, integer_kept, number_kept, address_kept, constant_kept, constant_kept_step, operand_kept}
 

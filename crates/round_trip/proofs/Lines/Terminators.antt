@@ -17,8 +17,8 @@ use Rattle.ir_grammar.specs.declared.shape.Value.TheVariants as val
 use Rattle.ir_grammar.specs.Walk.{Kept}
 use Rattle.ir_scope.specs.Runs.{behind, begins_with, runs}
 use Rattle.ir_constants.specs.Constants.{is_close_square}
-use Rattle.ir_body.specs.Operands.{Names, operand_at, block_at, then_at}
-use Rattle.ir_body.specs.Lines.{is_open_square, entry_at, made_phi, phi_at, ret_at, made_branch, br_at, case_at, cases_at, made_switch, switch_at}
+use Rattle.ir_operands.specs.Operands.{Names, operand_at, block_at, then_at}
+use Rattle.ir_terms.specs.Terms.{is_open_square, entry_at, made_phi, phi_at, ret_at, made_branch, br_at, case_at, cases_at, made_switch, switch_at}
 use Rattle.ir_writer.specs.Ranges.{is_operand_in_range, is_phi_in_range}
 use Rattle.round_trip.proofs.Grammar.Kept.{Lexemes, joined, scalar_kept, integer_kept, operand_kept, typed_kept, block_kept_name, entry_kept, case_kept, close_square_kept}
 use Rattle.round_trip.proofs.Lines.Words.{one_more, then_back, joined_back, ended_back}

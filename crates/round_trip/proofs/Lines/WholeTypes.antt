@@ -10,7 +10,8 @@ use Rattle.ir_types.specs.declared.scalar.FnType.{FnType}
 use Rattle.ir_syntax.specs.declared.body.Arg.{Arg}
 use Rattle.ir_scope.specs.Runs.{Reading, begins_with, runs}
 use Rattle.ir_constants.specs.Constants.{is_close_paren}
-use Rattle.ir_body.specs.Calls.{is_scalar, scalar_at, dots_at, types_at, whole_at, call_type}
+use Rattle.ir_operands.specs.Marks.{is_scalar, scalar_at, dots_at}
+use Rattle.ir_calls.specs.Calls.{types_at, whole_at, call_type}
 use Rattle.ir_writer.specs.Instructions.{same, same_types, is_whole}
 use Rattle.round_trip.proofs.Grammar.Kept.{Lexemes, joined, scalar_kept, dots_kept, close_paren_kept, whole_kept}
 use Rattle.round_trip.proofs.Constants.Runs.{IsReadBack, runs_back}

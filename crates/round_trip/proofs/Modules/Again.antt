@@ -33,7 +33,7 @@ use Rattle.ir_grammar.specs.Shapes.{at_shape}
 use Rattle.ir_grammar.specs.Walk.{Kept}
 use Rattle.ir_scope.specs.Runs.{begins_with}
 use Rattle.ir_scope.specs.Scopes.{Env}
-use Rattle.ir_body.specs.Operands.{Names}
+use Rattle.ir_operands.specs.Operands.{Names}
 use Rattle.ir_parser.specs.Modules.{env_of, module_of}
 use Rattle.ir_writer.specs.Modules.{item_names}
 use Rattle.ir_writer.specs.Ranges.{AreBytes, BlockInRange, ItemInRange, InRange, is_type_in_range, type_in_range, is_phi_in_range, is_inst_in_range}

@@ -13,7 +13,7 @@ use Rattle.ir_grammar.specs.declared.shape.Shape.TheVariants as is
 use Rattle.ir_scope.specs.Runs.{run, runs, begins_with, closed_by}
 use Rattle.ir_constants.specs.Constants.{is_close_paren}
 use Rattle.ir_locals.specs.Locals.{local_name}
-use Rattle.ir_body.specs.Calls.{ext_at, is_scalar, dots_at}
+use Rattle.ir_operands.specs.Marks.{ext_at, is_scalar, dots_at}
 use Rattle.ir_parser.specs.Items.{named_at, param_at, params_at, names_from}
 use Rattle.ir_writer.specs.Instructions.{param_text}
 use Rattle.round_trip.proofs.Grammar.Kept.{Lexemes, joined, close_paren_kept, scalar_kept, local_kept, ext_kept, dots_kept, declared_param_kept, defined_params_kept}

@@ -10,10 +10,10 @@ use Rattle.ir_grammar.specs.Walk.{Kept}
 use Rattle.ir_scope.specs.Scopes.{Env}
 use Rattle.ir_scope.specs.Types.{is_close_brace}
 use Rattle.ir_locals.specs.Locals.{Local, locals_of, are_locals}
-use Rattle.ir_body.specs.Operands.{Names}
+use Rattle.ir_operands.specs.Operands.{Names}
 use Rattle.ir_body.specs.Lines.{Line, Labelled, OfPhi, OfInst, Dropped, Ends, line_at}
 use Rattle.ir_body.specs.Bodies.{blocks_from, body_of, is_counted, is_body, bounded, lines_at, behind_brace, body_with, body_at}
-use Rattle.ir_body.proofs.FormingReadings.{IsRead, read-closed}
+use Rattle.ir_operands.proofs.FormingReadings.{IsRead, read-closed}
 use Rattle.ir_writer.specs.Ranges.{is_inst_in_range, is_phi_in_range, BlockInRange}
 use Rattle.round_trip.proofs.Ranges.Texts.{LexemesAreBytes, lexemes_behind}
 use Rattle.round_trip.proofs.Ranges.Types.{AreTypesIn}

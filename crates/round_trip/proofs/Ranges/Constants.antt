@@ -33,8 +33,8 @@ use Rattle.ir_constants.specs.Constants.{is_close_square, address_at, zero_of, s
 use Rattle.ir_locals.specs.declared.local.Local.{Local}
 use Rattle.ir_locals.specs.declared.local.Local.TheVariants.{Param, Reg, Block}
 use Rattle.ir_locals.specs.Locals.{local_name, local_among, operand_in}
-use Rattle.ir_body.specs.Operands.{Names, operand_at}
-use Rattle.ir_body.proofs.FormingReadings.{IsRead, Any, read-any, read-behind, read-map, read-next, read-where, read-closed}
+use Rattle.ir_operands.specs.Operands.{Names, operand_at}
+use Rattle.ir_operands.proofs.FormingReadings.{IsRead, Any, read-any, read-behind, read-map, read-next, read-where, read-closed}
 use Rattle.ir_writer.specs.Ranges.{AreBytes, is_offset, constant_in_range, is_constant_in_range, is_operand_in_range}
 use Rattle.round_trip.proofs.Constants.Forms.{in_range-Addr, in_range-Text, in_range-Many}
 use Rattle.round_trip.proofs.Ranges.Escapes.{dropped_bytes, inside_bytes, unescaped_bytes}

@@ -21,7 +21,7 @@ use Rattle.ir_scope.specs.Scopes.{Env}
 use Rattle.ir_scope.specs.Types.{written_type}
 use Rattle.ir_constants.specs.Constants.{constant_at}
 use Rattle.ir_locals.specs.Locals.{is_name}
-use Rattle.ir_body.specs.Calls.{ext_at}
+use Rattle.ir_operands.specs.Marks.{ext_at}
 use Rattle.ir_body.specs.Bodies.{body_at}
 use Rattle.type_names.specs.TypeNames.{Named, named_types}
 use Rattle.ir_parser.specs.Items.{item_name_of, is_constant, is_plain, made_var, valued, var_kind, var_linked, var_of, names_from, params_at, are_params, Head, head_with, head_named, head_returning, head_extended, declared, declaration_of, with_body, defined, head_linked, definition_of, item_of}

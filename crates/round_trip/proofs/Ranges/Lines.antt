@@ -28,11 +28,14 @@ use Rattle.ir_scope.specs.Runs.{Reading, behind, runs}
 use Rattle.ir_scope.specs.Integers.{number}
 use Rattle.ir_scope.specs.Types.{written_type}
 use Rattle.ir_constants.specs.Constants.{is_close_paren}
-use Rattle.ir_body.specs.Operands.{Names, operand_at, block_at, then_at, typed, pair_at, flags_at, allows, nneg_at, allows_nneg, inbounds_at, align_at, aligned}
-use Rattle.ir_body.specs.Calls.{ext_at, scalar_at, whole_at, arg_at, args_at, is_call, call_type, made_call, callee_at, void_callee_at, returning_at, call_at}
-use Rattle.ir_body.specs.Lines.{Line, Labelled, OfPhi, OfInst, Dropped, Ends, bin_at, icmp_at, select_at, cast_at, count_at, made_alloca, alloca_at, made_load, load_at, made_store, store_at, is_integer, made_gep, gep_at, is_open_square, entry_at, made_phi, phi_at, ret_at, made_branch, br_at, cases_at, made_switch, switch_at, dropped_or, inst_line, term_line, verb_at, line_at}
-use Rattle.ir_body.proofs.FormingReadings.{IsRead, Any, read-any, read-behind, read-map, read-next, read-where, read-closed}
-use Rattle.ir_body.proofs.FormingTypes.{number-suits}
+use Rattle.ir_operands.specs.Operands.{Names, operand_at, block_at, then_at, typed, pair_at, flags_at, allows, nneg_at, allows_nneg, inbounds_at, align_at, aligned}
+use Rattle.ir_operands.specs.Marks.{ext_at, scalar_at}
+use Rattle.ir_calls.specs.Calls.{whole_at, arg_at, args_at, is_call, call_type, made_call, callee_at, void_callee_at, returning_at, call_at}
+use Rattle.ir_insts.specs.Insts.{bin_at, icmp_at, select_at, cast_at, count_at, made_alloca, alloca_at, made_load, load_at, made_store, store_at, is_integer, made_gep, gep_at}
+use Rattle.ir_terms.specs.Terms.{is_open_square, entry_at, made_phi, phi_at, ret_at, made_branch, br_at, cases_at, made_switch, switch_at}
+use Rattle.ir_body.specs.Lines.{Line, Labelled, OfPhi, OfInst, Dropped, Ends, dropped_or, inst_line, term_line, verb_at, line_at}
+use Rattle.ir_operands.proofs.FormingReadings.{IsRead, Any, read-any, read-behind, read-map, read-next, read-where, read-closed}
+use Rattle.ir_operands.proofs.FormingTypes.{number-suits}
 use Rattle.ir_writer.specs.Ranges.{is_type_in_range, is_operand_in_range, is_inst_in_range, is_phi_in_range, is_term_in_range}
 use Rattle.round_trip.proofs.Ranges.Texts.{LexemesAreBytes, lexemes_behind, dropped_lexemes}
 use Rattle.round_trip.proofs.Ranges.Types.{IsTypeIn, AreTypesIn, written_in}

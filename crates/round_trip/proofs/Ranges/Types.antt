@@ -16,7 +16,7 @@ use Rattle.ir_grammar.specs.Numbers.{number_of}
 use Rattle.ir_grammar.specs.Walk.{Kept}
 use Rattle.ir_scope.specs.Types.{fits, fitting, is_close_brace, begins_field, type_at, written_type}
 use Rattle.type_names.specs.TypeNames.{Named, written_for, stands_in, stands_for}
-use Rattle.ir_body.proofs.FormingReadings.{IsRead, read-behind, read-map, read-next, read-where, read-run, read-closed}
+use Rattle.ir_operands.proofs.FormingReadings.{IsRead, read-behind, read-map, read-next, read-where, read-run, read-closed}
 use Rattle.ir_writer.specs.Ranges.{type_in_range, is_type_in_range}
 use Rattle.round_trip.proofs.Constants.Types.{in_range-Array, in_range-Struct}
 

@@ -21,4 +21,4 @@ returns c =
     let new =
     ap (λ ls. is_some (local_among ls c.args.name.now)) (sym c.self.view_is)
     ∙ ap is_some (local_among-map c.args.name.now (λ v. v.items) c.self.inside.locals.entries) ∙ absent in
-    (added, ap are_locals added ∙ more_well c.args.self.now c.args.name.now c.args.local c.requires (sym c.is_name.ensures ∙ c.if-not-is_name.false) new)
+    (added, ap are_locals added ∙ more_well c.args.self.now c.args.name.now c.args.local c.requires (sym c.is_name.ensures.value ∙ c.if-not-is_name.false) new)
