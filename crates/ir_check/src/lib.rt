@@ -57,4 +57,3 @@ pub fn check_types(alloc: Global, m: &Module) -> Result<(), TypeFault>
         None => Ok(()),
     }
 }
-

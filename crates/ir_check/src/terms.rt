@@ -40,9 +40,7 @@ pub fn is_typed_term(
 {
     match term {
         Term::RetVoid => Ok(returns.is_none()),
-        Term::Ret(ty, value) => {
-            Ok(is_returned(returns, *ty) && has_type(scope, *ty, value))
-        }
+        Term::Ret(ty, value) => { Ok(is_returned(returns, *ty) && has_type(scope, *ty, value)) }
         Term::Br(_) => Ok(true),
         Term::CondBr(cond, _, _) => Ok(has_type(scope, Scalar::I1, cond)),
         Term::Switch {
