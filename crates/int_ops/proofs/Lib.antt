@@ -1,0 +1,4 @@
+pub mod OfType
+pub mod Ranges
+pub mod SignedTests
+pub mod WorkedOutcomes

@@ -1,0 +1,9 @@
+pub mod Binary
+pub mod Bitwise
+pub mod Casts
+pub mod Comparisons
+pub mod Divisions
+pub mod Outcomes
+pub mod PoisonOperands
+pub mod Shifts
+pub mod Sums
