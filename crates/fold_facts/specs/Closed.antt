@@ -1,5 +1,5 @@
 -- Closed assignments, and the least of them.
-use Rattle.std.specs.Prelude.{◌≡◌, ℕ, ◌+◌, true, List, Some, IsSome, IsTrue, length, take, slice_get}
+use Rattle.std.specs.Prelude.{◌≡◌, ℕ, ◌+◌, List, Some, IsSome, IsTrue, length, take, slice_get}
 use Rattle.std.specs.List.{filter_map}
 use Rattle.ir_syntax.specs.declared.body.Inst.{Inst}
 use Rattle.ir_syntax.specs.declared.body.Phi.{Phi}
@@ -18,19 +18,29 @@ use Rattle.fold_facts.specs.Terminators.{asks, term_edges}
 abbrev pub inst_result : List Inst → ℕ → ℕ → ℕ
 inst_result insts first k = first + length (filter_map result_type (take k insts))
 
--- What is asked in a reached block whose results begin with a number: each result is at least what its phi or instruction
--- says,
-pub record IsClosedBlock (setting : Setting) (a : Assigned) (place first : ℕ) (block : Block) : Type 0 where
-  pub phis : (k : ℕ) (phi : Phi) → slice_get block.phis k ≡ Some phi
-      → IsBelow (phi_fact setting a place phi) (fact_of a.facts (first + k))
-  pub insts : (k : ℕ) (inst : Inst) → slice_get block.insts k ≡ Some inst → IsSome (result_type inst)
-      → IsBelow (inst_fact setting a.facts inst) (fact_of a.facts (inst_result block.insts (first + length block.phis) k))
-  -- and each edge that the terminator asks for is reached
-  pub edges : (k to : ℕ) → slice_get (successors block.term) k ≡ Some to → IsTrue (asks (term_edges setting a.facts block.term) k)
-      → IsReachedEdge a place k to
+-- Each phi's result, of the block at a place whose results begin with a number, is at least what the phi says,
+abbrev pub ArePhisClosed : Setting → Assigned → ℕ → ℕ → Block → Type 0
+ArePhisClosed setting a place first block = (k : ℕ) (phi : Phi) → slice_get block.phis k ≡ Some phi
+    → IsBelow (phi_fact setting a place phi) (fact_of a.facts (first + k))
 
+-- each other instruction's result at least what the instruction says,
+abbrev pub AreInstsClosed : Setting → Assigned → ℕ → Block → Type 0
+AreInstsClosed setting a first block = (k : ℕ) (inst : Inst) → slice_get block.insts k ≡ Some inst → IsSome (result_type inst)
+    → IsBelow (inst_fact setting a.facts inst) (fact_of a.facts (inst_result block.insts (first + length block.phis) k))
+
+-- and each edge that the terminator asks for is reached.
+abbrev pub AreEdgesClosed : Setting → Assigned → ℕ → Block → Type 0
+AreEdgesClosed setting a place block = (k to : ℕ) → slice_get (successors block.term) k ≡ Some to
+    → IsTrue (asks (term_edges setting a.facts block.term) k) → IsReachedEdge a place k to
+
+pub record IsClosedBlock (setting : Setting) (a : Assigned) (place first : ℕ) (block : Block) : Type 0 where
+  pub phis : ArePhisClosed setting a place first block
+  pub insts : AreInstsClosed setting a first block
+  pub edges : AreEdgesClosed setting a place block
+
+-- In each reached block, they are.
 abbrev pub IsClosed : Setting → List Block → Assigned → Type 0
-IsClosed setting blocks a = (place : ℕ) (block : Block) → slice_get blocks place ≡ Some block → is_reached a place ≡ true
+IsClosed setting blocks a = (place : ℕ) (block : Block) → slice_get blocks place ≡ Some block → IsTrue (is_reached a place)
     → IsClosedBlock setting a place (first_result blocks place) block
 
 -- the closed assignment that is at most every closed one

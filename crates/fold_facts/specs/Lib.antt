@@ -7,4 +7,5 @@ pub mod OfFunction
 pub mod Operands
 pub mod Phis
 pub mod Places
+pub mod Raising
 pub mod Terminators

@@ -1,5 +1,6 @@
 -- Which edges a terminator asks for.
-use Rattle.std.specs.Prelude.{◌==◌, ℕ, suc, zero, Bool, true, false, List, [], ◌∷◌, Option, None, Some, option_map, if◌then◌else◌}
+use Rattle.std.specs.Prelude.{◌==◌, ℕ, suc, Bool, true, false, List, [], ◌∷◌, Option, None, Some, if◌then◌else◌}
+use Rattle.std.specs.List.{position_from}
 use Rattle.ir_types.specs.declared.scalar.Known.{Known}
 use Rattle.ir_types.specs.declared.scalar.Known.TheVariants.{Unknown, Num, Null}
 use Rattle.ir_syntax.specs.declared.body.Term.{Term}
@@ -30,8 +31,7 @@ branch_edge n = if n == 0 then Only 1 else Only 0
 
 -- the place of the case for a number
 abbrev pub case_for : ℕ → List (ℕ × ℕ) → Option ℕ
-case_for n [] = None
-case_for n (case ∷ more) = if case.0 == n then Some 0 else option_map suc (case_for n more)
+case_for n cases = position_from (λ case. case.0 == n) 0 cases
 
 -- the edge of the case, or the first one, which is the default's
 abbrev pub case_edge : Option ℕ → Edges

@@ -1,0 +1,9 @@
+pub mod Flags
+pub mod Lists
+pub mod Numbers
+pub mod Orders
+pub mod Raised
+pub mod Reaching
+pub mod Rising
+pub mod Visits
+pub mod Suiting
