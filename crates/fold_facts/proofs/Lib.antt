@@ -1,3 +1,5 @@
+pub mod Blank
+pub mod Closing
 pub mod Flags
 pub mod Lists
 pub mod Numbers
@@ -6,4 +8,5 @@ pub mod Raised
 pub mod Reaching
 pub mod Rising
 pub mod Visits
+pub mod Settling
 pub mod Suiting

@@ -1,9 +1,9 @@
 -- What the places of a sound function say is of the types of their results.
-use Rattle.std.proofs.Common.{◌≡◌, ◌∙◌, ℕ, zero, suc, ◌+◌, ◌<◌, ◌≤◌, ◌^◌, Bool, true, false, cond, List, [], ◌∷◌, Option, None, Some, length, map, refl, sym, ap, subst, arith, length-append}
+use Rattle.std.proofs.Common.{◌≡◌, ◌∙◌, ℕ, zero, suc, ◌+◌, ◌<◌, ◌≤◌, ◌^◌, Bool, true, false, cond, List, [], ◌∷◌, Option, None, Some, length, map, get_or, refl, sym, ap, subst, arith, length-append}
 use Rattle.std.specs.Prelude.{◌==◌, slice_get, IsTrue, IfSome, All, sum}
 use Rattle.std.specs.List.{AllZip}
 use Rattle.std.proofs.lemmas.List.Sums.{sum_by-cons}
-use Rattle.std.proofs.lemmas.Option.{none-some}
+use Rattle.std.proofs.lemmas.Option.{none-some, slice_get-get_or}
 use Rattle.ir_types.specs.declared.scalar.Scalar.{Scalar}
 use Rattle.ir_types.specs.declared.scalar.Scalar.TheVariants.{I1}
 use Rattle.ir_types.specs.declared.scalar.Known.{Known}
@@ -242,3 +242,6 @@ few_results func sound = by func.body refl
     by (Some body) e =
         let formed : FormedBody sound.items (length func.params) body = subst (λ o. IfSome o (FormedBody sound.items (length func.params))) e sound.formed.has_body in
         omega (arith, formed.few_insts, results_most body.blocks)
+
+pub all_suit : (func : Func) (known : List Known) → AreKnownOf func known → IsSoundFunction func → All (SaysItsTypes (record { known = known }) (results_in (blocks_of func))) (blocks_of func)
+all_suit func known are sound = λ k d less. places_suit func known are sound k (get_or (blocks_of func) k d) (slice_get-get_or (blocks_of func) k d less)

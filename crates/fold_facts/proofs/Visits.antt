@@ -221,7 +221,7 @@ pub edge_there : (blocks : List Block) (a : Assigned) (place k to : ℕ) (block 
     → (e : Edge) × (slice_get (edges_from a place) k ≡ Some e) × (e.to ≡ to)
 edge_there blocks a place k to block fits is at = of_map (λ edge. edge.to) (edges_from a place) k to (ap (λ l. slice_get l k) (edges_are blocks a place block fits is) ∙ at)
 
-edge_is : (e : Edge) (to : ℕ) → e.to ≡ to → e.reached ≡ true → e ≡ record { to = to; reached = true }
+pub edge_is : (e : Edge) (to : ℕ) → e.to ≡ to → e.reached ≡ true → e ≡ record { to = to; reached = true }
 edge_is e to h g = ap (λ k. record { to = k; reached = e.reached }) h ∙ ap (λ b. record { to = to; reached = b }) g
 
 pub edges_step : (setting : Setting) (blocks : List Block) (a b c : Assigned) (place first n : ℕ) (block : Block) (asked : Edges) (changed raised : Bool)

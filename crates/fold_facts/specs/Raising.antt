@@ -1,10 +1,11 @@
 -- How a solver raises an assignment: what a step keeps.
-use Rattle.std.specs.Prelude.{◌≡◌, ℕ, ◌+◌, ◌<◌, ◌^◌, Bool, true, List, Some, IsTrue, IsFalse, length, sum_by, slice_get, slice_set, if◌then◌else◌}
+use Rattle.std.specs.Prelude.{◌≡◌, ℕ, ◌+◌, ◌<◌, ◌^◌, Bool, true, false, List, Some, IsTrue, IsFalse, length, map, sum_by, slice_get, slice_set, if◌then◌else◌}
 use Rattle.std.specs.List.{AllZip}
 use Rattle.ir_types.specs.declared.scalar.Scalar.{Scalar}
 use Rattle.ir_syntax.specs.declared.body.Inst.{Inst}
 use Rattle.ir_syntax.specs.declared.body.Phi.{Phi}
 use Rattle.ir_syntax.specs.declared.body.Block.{Block}
+use Rattle.ir_syntax.specs.Edges.{successors}
 use Rattle.ir_syntax.specs.Results.{result_type}
 use Rattle.ir_syntax.specs.Definite.{first_result}
 use Rattle.fold_facts.specs.declared.fact.Fact.{Fact}
@@ -71,3 +72,13 @@ pub record Raises (setting : Setting) (blocks : List Block) (a b : Assigned) (ch
   pub within : (other : Assigned) → IsClosed setting blocks other → IsAtMost a other → IsAtMost b other
   pub same : IsFalse changed → b ≡ a
   pub falls : IsTrue changed → room b < room a
+
+-- ---- the start
+
+-- the edges of a block, none of them reached
+abbrev pub blank_edges : Block → List Edge
+blank_edges block = map (λ to. record { to = to; reached = false }) (successors block.term)
+
+-- one fact for each result, and no edge reached
+abbrev pub blank : List Block → Fact → Assigned
+blank blocks fact = record { facts = map (λ ty. fact) (results_in blocks); edges = map blank_edges blocks }

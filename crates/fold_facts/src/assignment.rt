@@ -1,16 +1,19 @@
 //! Assignments.
 ghost use Rattle.std.specs.Prelude.{◌≡◌, ◌<◌, ◌++◌, true, false, Some, length, map, slice_get, slice_set, IfSome, IfOk, OnOk, MatchBool, not, if◌then◌else◌};
-ghost use Rattle.std.specs.List.{list_any};
+ghost use Rattle.std.specs.List.{list_any, filter_map};
+ghost use Rattle.ir_syntax.specs.Results.{result_type, block_results};
 ghost use Rattle.fold_facts.specs.declared.edge.Edge.{Edge};
 ghost use Rattle.fold_facts.specs.Facts.{IsBelow, join as joined};
-ghost use Rattle.fold_facts.specs.Raising.{with_edge};
+ghost use Rattle.fold_facts.specs.Raising.{with_edge, blank as blank_of, blank_edges};
 ghost use Rattle.fold_facts.specs.Assigned.{edges_from, comes_to, enters as entered, is_reached as reached, fact_of as fact_in};
 
 use crate::Fact;
 use crate::edge::Edge;
 use crate::operands::fact_of;
 use crate::order::{is_below, join};
-use ir_types::List;
+use ir_syntax::{Block, Inst};
+use ir_types::{List, OutOfMemory};
+use std::alloc::Global;
 use std::marker::Model;
 
 /// What is known of each result of a function, and which of its edges are reached.
@@ -54,7 +57,66 @@ fn set_flag(flags: &mut List<bool>, place: usize)
     }
 }
 
+/// Adds the fact once for each result of a block.
+fn add_facts(facts: &mut List<Fact>, fact: Fact, block: &Block) -> Result<(), OutOfMemory>
+    ensures { OnOk result (facts.new ≡ facts.old ++ map (λ ty. fact) (block_results block.now)) }
+{
+    for _phi in block.phis.as_slice() {
+        facts.push(fact)?;
+    }
+    add_inst_facts(facts, fact, block.insts.as_slice())
+}
+
+/// Adds the fact once for each result of the instructions.
+fn add_inst_facts(facts: &mut List<Fact>, fact: Fact, insts: &[Inst]) -> Result<(), OutOfMemory>
+    ensures { OnOk result (facts.new ≡ facts.old ++ map (λ ty. fact) (filter_map result_type insts.now)) }
+{
+    for inst in insts {
+        if inst.has_result() {
+            facts.push(fact)?;
+        }
+    }
+    Ok(())
+}
+
+/// The edges of a block, none of them reached.
+fn edges_of(alloc: Global, block: &Block) -> Result<List<Edge>, OutOfMemory>
+    ensures { IfOk result (λ edges. edges ≡ blank_edges block.now) }
+{
+    let mut edges = List::new(alloc);
+    for k in 0..block.term.successor_count() {
+        match block.term.successor(k) {
+            Some(to) => edges.push(Edge { to, reached: false })?,
+            None => return Ok(edges),
+        }
+    }
+    Ok(edges)
+}
+
 impl Assignment {
+    /// The fact for each result of the blocks, and no edge reached.
+    pub(crate) fn blank(
+        alloc: Global,
+        blocks: &[Block],
+        fact: Fact,
+    ) -> Result<Assignment, OutOfMemory>
+        ensures { IfOk result (λ a. a ≡ blank_of blocks.now fact) }
+    {
+        let mut facts = List::new(alloc);
+        let mut edges = Vec::new(alloc);
+        let mut reached = List::new(alloc);
+        for (place, block) in blocks.iter().enumerate() {
+            add_facts(&mut facts, fact, block)?;
+            edges.push(edges_of(alloc, block)?)?;
+            reached.push(place == 0)?;
+        }
+        Ok(Assignment {
+            facts,
+            edges,
+            reached,
+        })
+    }
+
     /// The facts of the results, by their numbers.
     pub(crate) fn facts(&self) -> &[Fact]
         ensures { result.now ≡ self.now.facts }

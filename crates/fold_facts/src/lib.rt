@@ -4,9 +4,11 @@
 
 mod arithmetic;
 mod assignment;
+mod closed;
 mod edge;
 mod fact;
 mod instructions;
+mod laws;
 mod operands;
 mod order;
 mod phis;
@@ -14,10 +16,17 @@ mod place;
 mod raising;
 mod said;
 mod says;
+mod solving;
 mod terminators;
 
 pub use assignment::Assignment;
+pub use closed::is_closed;
 pub use fact::Fact;
+pub use laws::{
+    assignments_are_ordered, join_is_least_upper_bound, least_closed_is_one, order_is_partial,
+    what_is_said_rises,
+};
 pub use place::Place;
 pub use said::{Edges, Said};
 pub use says::transfer;
+pub use solving::solve_plain;

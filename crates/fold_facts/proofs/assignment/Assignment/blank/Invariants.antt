@@ -1,0 +1,8 @@
+use Rattle.std.proofs.Common.{◌≡◌, ◌++◌, map, drop, length}
+use Rattle.std.specs.Prelude.{slice_get, ◌==◌}
+use Rattle.fold_facts.specs.OfFunction.{results_in}
+use Rattle.fold_facts.proofs.Blank.{IsBlankTo}
+use Rattle.fold_facts.proofs.assignment.Assignment.blank.Given as goal
+
+abbrev pub invariant-loop-place : goal.invariant-loop-place
+invariant-loop-place l = IsBlankTo l.blocks l.fact l.place l.facts l.edges.items l.reached
