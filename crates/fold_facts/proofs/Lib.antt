@@ -1,6 +1,7 @@
 pub mod Blank
 pub mod Closing
 pub mod Flags
+pub mod Giving
 pub mod Lists
 pub mod Numbers
 pub mod Orders

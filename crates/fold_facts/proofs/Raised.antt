@@ -245,7 +245,7 @@ edge_above a from k e h f j t g = elim (is_or_not f from) [
           (edge_reached a from k e h ∙ ap (λ d. Some (reached_to d)) (ap edge_at is))
     ]
 
-edges_fit : (blocks : List Block) (a : Assigned) (from k : ℕ) (e : Edge) → IsAssignmentIn blocks a → slice_get (edges_from a from) k ≡ Some e → IsAssignmentIn blocks (with_edge a from k e.to)
+pub edges_fit : (blocks : List Block) (a : Assigned) (from k : ℕ) (e : Edge) → IsAssignmentIn blocks a → slice_get (edges_from a from) k ≡ Some e → IsAssignmentIn blocks (with_edge a from k e.to)
 edges_fit blocks a from k e fits h = record {
   facts = fits.facts;
   edges =

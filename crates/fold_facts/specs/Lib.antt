@@ -2,6 +2,7 @@ pub mod Arithmetic
 pub mod Assigned
 pub mod Closed
 pub mod Facts
+pub mod Given
 pub mod Instructions
 pub mod OfFunction
 pub mod Operands

@@ -177,6 +177,14 @@ impl Assignment {
         !is_below(said, before)
     }
 
+    /// Writes the fact of a result.
+    pub(crate) fn put(&mut self, k: usize, fact: Fact)
+        requires { k < length self.old.facts }
+        ensures { self.new ≡ record { facts = slice_set self.old.facts k fact; edges = self.old.edges } }
+    {
+        self.facts.set(k, fact);
+    }
+
     /// Reaches the k-th edge that leaves the block, and so the block that it goes to.
     fn open(&mut self, from: usize, k: usize, to: usize)
         requires { slice_get (edges_from self.old from) k ≡ Some (record { to = to; reached = false }) }

@@ -7,6 +7,7 @@ mod assignment;
 mod closed;
 mod edge;
 mod fact;
+mod given;
 mod instructions;
 mod laws;
 mod operands;

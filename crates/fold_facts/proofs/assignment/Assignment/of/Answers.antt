@@ -1,0 +1,7 @@
+use Rattle.std.proofs.Common.{◌∙◌, ap, sym, subst}
+use Rattle.fold_facts.specs.Given.{HasEdges, HasFacts}
+use Rattle.fold_facts.proofs.Giving.{edges_kept}
+use Rattle.fold_facts.proofs.assignment.Assignment.of.Goals as goal
+
+pub put_all-requires-clause-start : goal.put_all-requires-clause-start
+put_all-requires-clause-start c = c.reach_all.ensures.facts ∙ ap (λ a. a.facts) c.in_ok-a.ensures
