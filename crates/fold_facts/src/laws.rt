@@ -1,17 +1,21 @@
 //! What holds of facts and assignments. These functions do nothing: what they ensure is the law.
-ghost use Rattle.std.specs.Prelude.{◌≡◌, ◌↔◌, ℕ, List, IsTrue};
+ghost use Rattle.std.specs.Prelude.{◌≡◌, ◌↔◌, ℕ, List, Some, IsTrue, length, slice_get};
 ghost use Rattle.ir_syntax.specs.declared.body.Inst.{Inst};
 ghost use Rattle.ir_syntax.specs.declared.body.Phi.{Phi};
 ghost use Rattle.ir_syntax.specs.declared.body.Term.{Term};
 ghost use Rattle.ir_syntax.specs.declared.body.Block.{Block};
+ghost use Rattle.ir_syntax.specs.declared.item.Func.{Func};
+ghost use Rattle.ir_syntax.specs.Edges.{successors};
 ghost use Rattle.fold_facts.specs.declared.fact.Fact.{Fact};
 ghost use Rattle.fold_facts.specs.Facts.{IsBelow, join};
-ghost use Rattle.fold_facts.specs.Assigned.{Assigned, fact_of, IsReachedEdge, is_reached, IsAtMost};
+ghost use Rattle.fold_facts.specs.Assigned.{Assigned, fact_of, edges_from, IsReachedEdge, is_reached, IsAtMost};
 ghost use Rattle.fold_facts.specs.Operands.{Setting};
 ghost use Rattle.fold_facts.specs.Instructions.{inst_fact};
 ghost use Rattle.fold_facts.specs.Phis.{phi_fact};
 ghost use Rattle.fold_facts.specs.Terminators.{asks, term_edges};
 ghost use Rattle.fold_facts.specs.Closed.{IsLeastClosed};
+ghost use Rattle.fold_facts.specs.Places.{blocks_of};
+ghost use Rattle.fold_facts.specs.OfFunction.{IsAssignmentOf, results_in};
 
 /// The order of facts is partial.
 pub fn order_is_partial()
@@ -50,4 +54,11 @@ pub fn least_closed_is_one()
         → IsLeastClosed setting blocks a → IsLeastClosed setting blocks b → fact_of a.facts k ≡ fact_of b.facts k }
     ensures edges { (setting : Setting) (blocks : List Block) (a b : Assigned) (from k to : ℕ)
         → IsLeastClosed setting blocks a → IsLeastClosed setting blocks b → IsReachedEdge a from k to ↔ IsReachedEdge b from k to }
+{}
+
+/// An assignment of a function has a fact for each result, and an edge for each successor of a block.
+pub fn assignments_have_places()
+    ensures facts { (func : Func) (a : Assigned) → IsAssignmentOf func a → length a.facts ≡ length (results_in (blocks_of func)) }
+    ensures edges { (func : Func) (a : Assigned) (place : ℕ) (block : Block) → IsAssignmentOf func a
+        → slice_get (blocks_of func) place ≡ Some block → length (edges_from a place) ≡ length (successors block.term) }
 {}
