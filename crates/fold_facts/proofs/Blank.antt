@@ -1,19 +1,19 @@
 -- A blank assignment, made block by block.
-use Rattle.std.proofs.Common.{◌≡◌, ◌≢◌, ◌∙◌, ℕ, zero, suc, ◌+◌, ◌<◌, ◌≤◌, ◌⊎◌, inl, inr, Bool, true, false, List, [], ◌∷◌, ◌++◌, Option, None, Some, length, map, drop, get_or, refl, sym, ap, subst, arith, append_assoc, length-append}
+use Rattle.std.proofs.Common.{◌≡◌, ◌∙◌, ℕ, zero, suc, ◌+◌, ◌<◌, ◌≤◌, ◌⊎◌, inl, inr, Bool, true, false, List, [], ◌∷◌, ◌++◌, Some, length, map, drop, get_or, refl, sym, ap, subst, arith, length-append}
 use Rattle.std.specs.Prelude.{slice_get, ◌==◌}
 use Rattle.std.proofs.lemmas.List.{drop_all, length-map}
 use Rattle.std.proofs.lemmas.Bool.{eqb-true}
 use Rattle.std.proofs.lemmas.Option.{none-some}
-use Rattle.ir_types.proofs.ListSteps.{drop_at, slice_get-append_first, slice_get-append_rest}
+use Rattle.ir_types.proofs.ListSteps.{drop_at, slice_get-append_rest}
 use Rattle.ir_syntax.specs.declared.body.Block.{Block}
 use Rattle.ir_syntax.specs.Results.{block_results}
 use Rattle.fold_facts.specs.declared.fact.Fact.{Fact}
 use Rattle.fold_facts.specs.declared.edge.Edge.{Edge}
-use Rattle.fold_facts.specs.Assigned.{Assigned, is_reached}
+use Rattle.fold_facts.specs.Assigned.{is_reached}
 use Rattle.fold_facts.specs.OfFunction.{results_in}
 use Rattle.fold_facts.specs.Raising.{blank, blank_edges}
 use Rattle.fold_facts.proofs.Flags.{AreFlags}
-use Rattle.fold_facts.proofs.Lists.{some_is, is_or_not, within}
+use Rattle.fold_facts.proofs.Lists.{some_is}
 use Rattle.fold_facts.proofs.Reaching.{reached_by}
 use Rattle.fold_facts.proofs.Settling.{not_reached}
 

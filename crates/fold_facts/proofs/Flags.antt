@@ -1,10 +1,10 @@
 -- Which blocks are reached, once an edge is.
-use Rattle.std.proofs.Common.{◌≡◌, ◌≢◌, ◌∙◌, ◌⊎◌, inl, inr, ℕ, ◌<◌, ◌≤◌, Bool, true, false, List, Option, None, Some, length, set, get_or, refl, sym, ap, subst, arith}
+use Rattle.std.proofs.Common.{◌≡◌, ◌≢◌, ◌∙◌, inl, inr, ℕ, ◌<◌, Bool, true, false, List, Option, None, Some, length, set, get_or, refl, sym, ap, subst, arith}
 use Rattle.std.specs.Prelude.{slice_get}
 use Rattle.std.proofs.lemmas.List.{length-set}
 use Rattle.std.proofs.lemmas.Option.{none-some, slice_get_read}
 use Rattle.fold_facts.specs.declared.edge.Edge.{Edge}
-use Rattle.fold_facts.specs.Assigned.{Assigned, edges_at, edges_from, IsReachedEdge, is_reached, IsAtMost}
+use Rattle.fold_facts.specs.Assigned.{Assigned, edges_at, edges_from, is_reached}
 use Rattle.fold_facts.specs.Raising.{with_edge}
 use Rattle.fold_facts.proofs.Lists.{some_is, is_or_not, set_same, set_other, within}
 use Rattle.fold_facts.proofs.Orders.{below_refl}

@@ -1,8 +1,7 @@
 -- Edges and facts that are given are written one after another.
-use Rattle.std.proofs.Common.{◌≡◌, ◌≢◌, ◌∙◌, ◌↔◌, ◌⊎◌, inl, inr, ℕ, zero, suc, ◌+◌, ◌<◌, ◌≤◌, Bool, true, false, cond, List, [], ◌∷◌, Option, None, Some, length, map, set, get_or, refl, sym, ap, subst, arith}
-use Rattle.std.specs.Prelude.{slice_get, not, IfSome, IsSomeAnd, Contains, All, AllPairs}
-use Rattle.std.proofs.lemmas.Bool.{false≢true}
-use Rattle.std.proofs.lemmas.Option.{none-some, slice_get-get_or, get_or_from_slice_get, slice_get_read}
+use Rattle.std.proofs.Common.{◌≡◌, ◌≢◌, ◌∙◌, ◌⊎◌, inl, inr, ℕ, zero, suc, ◌+◌, ◌<◌, ◌≤◌, Bool, true, false, cond, List, [], ◌∷◌, Option, None, Some, length, map, set, get_or, refl, sym, ap, subst, arith}
+use Rattle.std.specs.Prelude.{slice_get, IfSome, IsSomeAnd, All, AllPairs}
+use Rattle.std.proofs.lemmas.Option.{slice_get-get_or, get_or_from_slice_get, slice_get_read}
 use Rattle.ir_types.specs.declared.scalar.Scalar.{Scalar}
 use Rattle.ir_types.proofs.ListSteps.{All-at}
 use Rattle.ir_syntax.specs.declared.body.Block.{Block}

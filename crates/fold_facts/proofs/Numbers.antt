@@ -1,7 +1,7 @@
 -- The numbers of results.
-use Rattle.std.proofs.Common.{◌≡◌, ◌∙◌, ℕ, zero, suc, ◌+◌, ◌<◌, ◌≤◌, List, [], ◌∷◌, ◌++◌, Option, None, Some, length, map, take, drop, get_or, refl, sym, ap, subst, arith, length-append}
-use Rattle.std.specs.Prelude.{slice_get, IsSome}
-use Rattle.std.specs.List.{filter_map, flat_map}
+use Rattle.std.proofs.Common.{◌≡◌, ◌∙◌, ℕ, zero, suc, ◌+◌, ◌≤◌, List, [], ◌∷◌, Option, None, Some, length, map, take, refl, sym, ap, subst, arith, length-append}
+use Rattle.std.specs.Prelude.{slice_get}
+use Rattle.std.specs.List.{filter_map}
 use Rattle.std.proofs.lemmas.List.{length-map}
 use Rattle.std.proofs.lemmas.List.Sums.{sum_by-cons}
 use Rattle.std.proofs.lemmas.Option.{none-some}
@@ -12,9 +12,8 @@ use Rattle.ir_syntax.specs.declared.body.Phi.{Phi}
 use Rattle.ir_syntax.specs.declared.body.Block.{Block}
 use Rattle.ir_syntax.specs.Results.{result_type, block_results}
 use Rattle.ir_syntax.specs.Definite.{first_result, has_result}
-use Rattle.fold_facts.specs.Closed.{inst_result}
 use Rattle.fold_facts.specs.OfFunction.{results_in}
-use Rattle.fold_facts.proofs.Lists.{some_is, within, get_map}
+use Rattle.fold_facts.proofs.Lists.{some_is, get_map}
 
 -- ---- blocks
 

@@ -1,5 +1,5 @@
 -- The order of facts is partial, and the join of two is their least upper bound.
-use Rattle.std.proofs.Common.{◌≡◌, ◌∙◌, ℕ, zero, suc, Bool, true, false, cond, List, [], ◌∷◌, map, length, get_or, drop, ◌+◌, ◌<◌, refl, sym, ap, subst}
+use Rattle.std.proofs.Common.{◌≡◌, ◌∙◌, ℕ, Bool, true, false, cond, List, [], ◌∷◌, map, length, get_or, drop, ◌+◌, ◌<◌, refl, sym, ap, subst}
 use Rattle.ir_types.proofs.ListSteps.{drop_at}
 use Rattle.std.proofs.lemmas.Bool.{eqb-true, eq-eqb, false≢true}
 use Rattle.ir_types.specs.declared.scalar.Known.{Known}

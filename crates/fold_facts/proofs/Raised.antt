@@ -1,13 +1,10 @@
 -- One change of an assignment raises it.
-use Rattle.std.proofs.Common.{◌≡◌, ◌≢◌, ◌∙◌, ◌⊎◌, inl, inr, ℕ, zero, suc, ◌+◌, ◌<◌, ◌≤◌, Bool, true, false, cond, List, [], ◌∷◌, Option, None, Some, length, set, map, refl, sym, ap, subst, arith}
-use Rattle.std.specs.Prelude.{◌||◌, not, slice_get, sum_by, IsTrue, IsFalse, MatchBool}
-use Rattle.std.specs.List.{AllZip}
+use Rattle.std.proofs.Common.{◌≡◌, ◌≢◌, ◌∙◌, ◌⊎◌, inl, inr, ℕ, ◌+◌, ◌<◌, ◌≤◌, Bool, true, false, cond, List, Option, None, Some, length, set, map, refl, sym, ap, subst, arith}
+use Rattle.std.specs.Prelude.{◌||◌, not, slice_get, sum_by, MatchBool}
 use Rattle.std.proofs.lemmas.Bool.{false≢true}
 use Rattle.std.proofs.lemmas.Option.{none-some}
 use Rattle.ir_types.specs.declared.scalar.Scalar.{Scalar}
-use Rattle.ir_types.specs.declared.scalar.Known.{Known}
 use Rattle.ir_syntax.specs.declared.body.Block.{Block}
-use Rattle.ir_syntax.specs.Edges.{successors}
 use Rattle.fold_facts.specs.declared.fact.Fact.{Fact}
 use Rattle.fold_facts.specs.declared.fact.Fact.TheVariants.{Unreached, One, Varying}
 use Rattle.fold_facts.specs.declared.edge.Edge.{Edge}
@@ -17,8 +14,8 @@ use Rattle.fold_facts.specs.Operands.{Setting}
 use Rattle.fold_facts.specs.Closed.{IsClosed}
 use Rattle.fold_facts.specs.OfFunction.{IsFactOf, IsAssignmentIn, results_in}
 use Rattle.fold_facts.specs.Raising.{with_fact, with_edge, fact_room, edge_room, room, Raises}
-use Rattle.fold_facts.proofs.Lists.{some_is, is_or_not, set_same, set_other, set_is, there, within, map_set, get_map, of_map, zip_set, zip_at, zip_length, sum_set}
-use Rattle.fold_facts.proofs.Orders.{below_refl, below_trans, below_antisym, below_of_is, join_left, join_right, join_least, join_absorbs}
+use Rattle.fold_facts.proofs.Lists.{some_is, is_or_not, set_same, set_other, set_is, there, within, map_set, get_map, zip_set, zip_at, zip_length, sum_set}
+use Rattle.fold_facts.proofs.Orders.{below_refl, below_trans, below_of_is, join_left, join_right, join_least, join_absorbs}
 
 -- ---- steps one after another
 

@@ -1,6 +1,6 @@
 -- What a place says rises with the assignment.
-use Rattle.std.proofs.Common.{◌≡◌, ◌∙◌, ℕ, zero, suc, Bool, true, false, cond, List, [], ◌∷◌, Option, None, Some, map, refl, sym, ap, subst}
-use Rattle.std.specs.Prelude.{◌==◌, slice_get, IsTrue}
+use Rattle.std.proofs.Common.{◌≡◌, ◌∙◌, ℕ, Bool, true, false, cond, List, refl, sym, ap, subst}
+use Rattle.std.specs.Prelude.{◌==◌, slice_get}
 use Rattle.std.proofs.lemmas.Bool.{false≢true}
 use Rattle.ir_types.specs.declared.scalar.Known.{Known}
 use Rattle.ir_types.specs.declared.scalar.Known.TheVariants.{Unknown, Num, Null}
@@ -14,8 +14,7 @@ use Rattle.ir_syntax.specs.declared.body.Term.TheVariants as term
 use Rattle.fold_facts.specs.declared.fact.Fact.{Fact}
 use Rattle.fold_facts.specs.declared.fact.Fact.TheVariants.{Unreached, One, Varying}
 use Rattle.fold_facts.specs.declared.said.Edges.{Edges}
-use Rattle.fold_facts.specs.declared.said.Edges.TheVariants.{Nothing, Only, All}
-use Rattle.fold_facts.specs.Facts.{IsBelow, join_all}
+use Rattle.fold_facts.specs.Facts.{IsBelow}
 use Rattle.fold_facts.specs.Assigned.{Assigned, fact_of, enters, IsAtMost}
 use Rattle.fold_facts.specs.Operands.{Setting, operand_fact, const_fact, param_fact}
 use Rattle.fold_facts.specs.Arithmetic.{bin_fact, icmp_fact, cast_fact}

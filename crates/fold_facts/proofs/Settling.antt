@@ -11,12 +11,12 @@ use Rattle.fold_facts.specs.declared.fact.Fact.{Fact}
 use Rattle.fold_facts.specs.declared.fact.Fact.TheVariants.{Unreached}
 use Rattle.fold_facts.specs.declared.edge.Edge.{Edge}
 use Rattle.fold_facts.specs.Facts.{IsBelow}
-use Rattle.fold_facts.specs.Assigned.{Assigned, fact_of, edges_at, edges_from, IsReachedEdge, IsAtMost}
+use Rattle.fold_facts.specs.Assigned.{Assigned, fact_of, edges_at, IsReachedEdge, IsAtMost}
 use Rattle.fold_facts.specs.Operands.{Setting}
 use Rattle.fold_facts.specs.Closed.{IsClosed, IsLeastClosed}
 use Rattle.fold_facts.specs.OfFunction.{IsFactOf, IsAssignmentIn, results_in}
 use Rattle.fold_facts.specs.Raising.{Raises, room, blank, blank_edges}
-use Rattle.fold_facts.proofs.Lists.{some_is, of_map}
+use Rattle.fold_facts.proofs.Lists.{of_map}
 
 -- ---- the start
 

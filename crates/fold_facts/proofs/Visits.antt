@@ -1,10 +1,8 @@
 -- Visits of the places of a reached block, one after another.
-use Rattle.std.proofs.Common.{◌≡◌, ◌≢◌, ◌∙◌, ◌⊎◌, inl, inr, ℕ, zero, suc, ◌+◌, ◌<◌, ◌≤◌, ◌^◌, Bool, true, false, cond, List, [], ◌∷◌, Option, None, Some, length, map, take, refl, sym, ap, subst, arith}
+use Rattle.std.proofs.Common.{◌≡◌, ◌∙◌, inl, inr, ℕ, ◌+◌, ◌<◌, ◌≤◌, Bool, true, false, cond, List, [], ◌∷◌, Option, None, Some, length, map, take, refl, sym, ap, subst, arith}
 use Rattle.std.specs.Prelude.{◌||◌, ◌&&◌, not, slice_get, IsSome, IsTrue, IsFalse, is_some, MatchBool, IfSome}
-use Rattle.std.specs.List.{AllZip}
 use Rattle.std.proofs.lemmas.Bool.{false≢true}
 use Rattle.std.proofs.lemmas.List.{length-map}
-use Rattle.std.proofs.lemmas.Option.{none-some}
 use Rattle.ir_types.specs.declared.scalar.Scalar.{Scalar}
 use Rattle.ir_syntax.specs.declared.body.Inst.{Inst}
 use Rattle.ir_syntax.specs.declared.body.Phi.{Phi}
@@ -23,7 +21,7 @@ use Rattle.fold_facts.specs.Phis.{phi_fact}
 use Rattle.fold_facts.specs.Terminators.{asks, term_edges}
 use Rattle.fold_facts.specs.Closed.{inst_result, ArePhisClosed, AreInstsClosed, AreEdgesClosed, IsClosedBlock, IsClosed}
 use Rattle.fold_facts.specs.OfFunction.{IsFactOf, IsAssignmentIn, results_in}
-use Rattle.fold_facts.specs.Raising.{with_fact, with_edge, SaysItsTypes, IsVisit, Raises}
+use Rattle.fold_facts.specs.Raising.{with_fact, with_edge, IsVisit, Raises}
 use Rattle.fold_facts.proofs.Lists.{some_is, is_or_not, there, within, get_map, of_map, zip_length}
 use Rattle.fold_facts.proofs.Numbers.{first_zero, result_in, first_next, block_within, phi_result, phis_first, types, types_next, types_most, inst_typed}
 use Rattle.fold_facts.proofs.Orders.{below_trans}

@@ -1,7 +1,6 @@
 -- Which edges a terminator asks for.
 use Rattle.std.specs.Prelude.{◌==◌, ℕ, suc, Bool, true, false, List, [], ◌∷◌, Option, None, Some, if◌then◌else◌}
 use Rattle.std.specs.List.{position_from}
-use Rattle.ir_types.specs.declared.scalar.Known.{Known}
 use Rattle.ir_types.specs.declared.scalar.Known.TheVariants.{Unknown, Num, Null}
 use Rattle.ir_syntax.specs.declared.body.Term.{Term}
 use Rattle.ir_syntax.specs.declared.body.Term.TheVariants as term

@@ -24,8 +24,8 @@ pub use assignment::Assignment;
 pub use closed::is_closed;
 pub use fact::Fact;
 pub use laws::{
-    assignments_are_ordered, assignments_have_places, join_is_least_upper_bound, least_closed_is_one, order_is_partial,
-    what_is_said_rises,
+    assignments_are_ordered, assignments_have_places, join_is_least_upper_bound,
+    least_closed_is_one, order_is_partial, what_is_said_rises,
 };
 pub use place::Place;
 pub use said::{Edges, Said};

@@ -1,4 +1,4 @@
-use Rattle.std.proofs.Common.{◌≡◌, ◌+◌, refl, length, arith}
+use Rattle.std.proofs.Common.{◌+◌, refl, arith}
 use Rattle.fold_facts.proofs.Lists.{item_at}
 use Rattle.fold_facts.proofs.Numbers.{block_within}
 use Rattle.fold_facts.proofs.Visits.{edges_are, blocks_long}

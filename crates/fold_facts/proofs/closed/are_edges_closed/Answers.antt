@@ -1,4 +1,4 @@
-use Rattle.std.proofs.Common.{◌≡◌, ◌∙◌, arith, ap}
+use Rattle.std.proofs.Common.{◌∙◌, arith, ap}
 use Rattle.fold_facts.specs.Terminators.{term_edges}
 use Rattle.fold_facts.proofs.Closing.{accepted, refuted, edges_more, edges_done, edges_one, edges_length}
 use Rattle.fold_facts.proofs.closed.are_edges_closed.Goals as goal

@@ -1,4 +1,4 @@
-use Rattle.std.proofs.Common.{◌≡◌, ◌+◌, refl, length, arith, ap, sym, subst}
+use Rattle.std.proofs.Common.{◌+◌, refl, arith, sym, subst}
 use Rattle.fold_facts.proofs.Lists.{item_at}
 use Rattle.fold_facts.proofs.Numbers.{block_within}
 use Rattle.fold_facts.proofs.Visits.{AllRaised, all_step, all_end}

@@ -1,4 +1,4 @@
-use Rattle.std.proofs.Common.{◌≡◌, ◌∙◌, ◌+◌, length, arith, ap, sym, subst}
+use Rattle.std.proofs.Common.{◌∙◌, ◌+◌, arith, ap, sym, subst}
 use Rattle.fold_facts.specs.Terminators.{term_edges}
 use Rattle.fold_facts.proofs.Visits.{EdgesRaised, edges_long, edges_step, edges_end}
 use Rattle.fold_facts.proofs.raising.reach_edges.Goals as goal

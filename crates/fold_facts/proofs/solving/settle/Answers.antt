@@ -1,4 +1,4 @@
-use Rattle.fold_facts.proofs.Settling.{settle_start, settle_step, settle_end, settle_falls}
+use Rattle.fold_facts.proofs.Settling.{settle_start}
 use Rattle.fold_facts.proofs.solving.settle.Goals as goal
 
 pub loop-changed-init : goal.loop-changed-init

@@ -1,6 +1,3 @@
-use Rattle.std.proofs.Common.{◌≡◌, ◌++◌, map, drop, length}
-use Rattle.std.specs.Prelude.{slice_get, ◌==◌}
-use Rattle.fold_facts.specs.OfFunction.{results_in}
 use Rattle.fold_facts.proofs.Blank.{IsBlankTo}
 use Rattle.fold_facts.proofs.assignment.Assignment.blank.Given as goal
 

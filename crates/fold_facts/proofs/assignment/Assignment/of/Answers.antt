@@ -1,6 +1,4 @@
-use Rattle.std.proofs.Common.{◌∙◌, ap, sym, subst}
-use Rattle.fold_facts.specs.Given.{HasEdges, HasFacts}
-use Rattle.fold_facts.proofs.Giving.{edges_kept}
+use Rattle.std.proofs.Common.{◌∙◌, ap}
 use Rattle.fold_facts.proofs.assignment.Assignment.of.Goals as goal
 
 pub put_all-requires-clause-start : goal.put_all-requires-clause-start
