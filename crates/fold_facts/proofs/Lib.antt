@@ -1,0 +1,13 @@
+pub mod Blank
+pub mod Closing
+pub mod Flags
+pub mod Giving
+pub mod Lists
+pub mod Numbers
+pub mod Orders
+pub mod Raised
+pub mod Reaching
+pub mod Rising
+pub mod Visits
+pub mod Settling
+pub mod Suiting

@@ -1,0 +1,12 @@
+pub mod Arithmetic
+pub mod Assigned
+pub mod Closed
+pub mod Facts
+pub mod Given
+pub mod Instructions
+pub mod OfFunction
+pub mod Operands
+pub mod Phis
+pub mod Places
+pub mod Raising
+pub mod Terminators

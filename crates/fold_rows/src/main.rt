@@ -1,0 +1,95 @@
+//! Reads the texts of modules from a file, each behind a line `; == NAME with KNOWN ..`, and prints for each what folding
+//! knows of its first function that has a body: `fold_rows FILE`. `KNOWN` is a number, `null` or `_`, one for each parameter;
+//! those that are missing or don't suit are `_`. An answer has the facts of the results (`-` of one that nothing reaches, `*`
+//! of one that varies) and the reached edges as BLOCK.PLACE.
+#![tactic(auto)]
+
+mod known;
+mod shown;
+
+ghost use Rattle.std.specs.Prelude.{IfSome};
+ghost use Rattle.ir_syntax.specs.Formed.{Formed};
+ghost use Rattle.ir_syntax.specs.Typed.{Typed};
+ghost use Rattle.ir_syntax.specs.Definite.{Definite};
+ghost use Rattle.ir_syntax.specs.SoundFunctions.{IsSoundFunction};
+
+use crate::known::known_of;
+use crate::shown::shown;
+use fold_facts::solve_plain;
+use ir_check::check_types;
+use ir_parser::{read_module, what_is_spelled_is_formed};
+use ir_paths::check_paths;
+use ir_syntax::{Func, Item, Module, functions_are_sound};
+use std::alloc::Global;
+use std::process::ExitCode;
+use std::rt::{Env, Files};
+use std::{env, fs};
+
+/// What stands before the name of a text.
+const BEHIND: &str = "; == ";
+
+fn main(rt: HostRuntime) -> ExitCode {
+    match run(&rt) {
+        Ok(()) => ExitCode::SUCCESS,
+        Err(_) => ExitCode::FAILURE,
+    }
+}
+
+fn run<R: Env + Files + Print + AllocGlobal>(rt: &R) -> anyhow::Result<()> {
+    for word in env::args(rt)?.skip(1) {
+        let table = fs::read_to_string(rt, word.as_str())?;
+        for piece in table.split(BEHIND).skip(1) {
+            let (name, text) = piece.split_once('\n').unwrap_or((piece, ""));
+            let answer = answer_of(rt.alloc(), name, text.as_bytes())?;
+            println!(rt; "{name}: {answer}")?;
+        }
+    }
+    Ok(())
+}
+
+// What folding knows of the first function of a text.
+fn answer_of(alloc: Global, name: &str, text: &[u8]) -> anyhow::Result<String> {
+    what_is_spelled_is_formed();
+    let Ok(module) = read_module(alloc, text) else {
+        return Ok(String::from_str(alloc, "not read")?);
+    };
+    if check_types(alloc, &module).is_err() {
+        return Ok(String::from_str(alloc, "not typed")?);
+    }
+    if check_paths(alloc, &module).is_err() {
+        return Ok(String::from_str(alloc, "not definite")?);
+    }
+    match first_defined(&module) {
+        Some(func) => folded(alloc, name, func),
+        None => Ok(String::from_str(alloc, "no function")?),
+    }
+}
+
+// The first function that has a body.
+fn first_defined(m: &Module) -> Option<&Func>
+    requires formed { Formed m.now }
+    requires typed { Typed m.now }
+    requires definite { Definite m.now }
+    ensures { IfSome result (λ func. IsSoundFunction func.now) }
+{
+    functions_are_sound();
+    for item in m.items.as_slice() {
+        match item {
+            Item::Var(_) => {}
+            Item::Func(func) => {
+                if func.body.is_some() {
+                    return Some(func);
+                }
+            }
+        }
+    }
+    None
+}
+
+fn folded(alloc: Global, name: &str, func: &Func) -> anyhow::Result<String>
+    requires { IsSoundFunction func.now }
+{
+    let known = known_of(alloc, name, func.params.as_slice())?;
+    let a = solve_plain(alloc, func, known.as_slice())?;
+    shown(alloc, func, known.as_slice(), &a)
+}
