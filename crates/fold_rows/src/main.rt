@@ -1,6 +1,7 @@
 //! Reads the texts of modules from a file, each behind a line `; == NAME with KNOWN ..`, and prints for each what folding
 //! knows of its first function that has a body: `fold_rows FILE`. `KNOWN` is a number, `null` or `_`, one for each parameter;
-//! those that are missing or don't suit are `_`. An answer has the facts of the results (`-` of one that nothing reaches, `*`
+//! those that are missing or don't suit are `_`. A second line has the assignment that is given no edge and no fact, in which each
+//! result varies. An answer has the facts of the results (`-` of one that nothing reaches, `*`
 //! of one that varies) and the reached edges as BLOCK.PLACE.
 #![tactic(auto)]
 
@@ -15,7 +16,7 @@ ghost use Rattle.ir_syntax.specs.SoundFunctions.{IsSoundFunction};
 
 use crate::known::known_of;
 use crate::shown::shown;
-use fold_facts::solve_plain;
+use fold_facts::{Assignment, solve_plain};
 use ir_check::check_types;
 use ir_parser::{read_module, what_is_spelled_is_formed};
 use ir_paths::check_paths;
@@ -90,6 +91,9 @@ fn folded(alloc: Global, name: &str, func: &Func) -> anyhow::Result<String>
     requires { IsSoundFunction func.now }
 {
     let known = known_of(alloc, name, func.params.as_slice())?;
-    let a = solve_plain(alloc, func, known.as_slice())?;
-    shown(alloc, func, known.as_slice(), &a)
+    let least = solve_plain(alloc, func, known.as_slice())?;
+    let folded = shown(alloc, func, known.as_slice(), &least)?;
+    let blank = Assignment::of(alloc, func, &[], &[])?;
+    let given = shown(alloc, func, known.as_slice(), &blank)?;
+    Ok(format!(in alloc; "{folded}\n  with nothing given: {given}")?)
 }
