@@ -1,11 +1,12 @@
 //! Reads the texts of modules from a file, each behind a line `; == NAME with KNOWN ..`, and prints for each what folding
 //! knows of its first function that has a body: `fold_rows FILE`. `KNOWN` is a number, `null` or `_`, one for each parameter;
-//! those that are missing or don't suit are `_`. A second line has the assignment that is given no edge and no fact, in which each
-//! result varies. An answer has the facts of the results (`-` of one that nothing reaches, `*`
-//! of one that varies) and the reached edges as BLOCK.PLACE.
+//! those that are missing or don't suit are `_`. An answer has the facts of the results (`-` of one that nothing reaches, `*`
+//! of one that varies), the reached edges as BLOCK.PLACE, and what the terminator of the first block asks for with the steps
+//! that were counted. A second line has the assignment that is given no edge and no fact, in which each result varies.
 #![tactic(auto)]
 
 mod known;
+mod said;
 mod shown;
 
 ghost use Rattle.std.specs.Prelude.{IfSome};
@@ -15,15 +16,19 @@ ghost use Rattle.ir_syntax.specs.Definite.{Definite};
 ghost use Rattle.ir_syntax.specs.SoundFunctions.{IsSoundFunction};
 
 use crate::known::known_of;
+use crate::said::first_said;
 use crate::shown::shown;
 use fold_facts::{Assignment, solve_plain};
 use ir_check::check_types;
 use ir_parser::{read_module, what_is_spelled_is_formed};
 use ir_paths::check_paths;
 use ir_syntax::{Func, Item, Module, functions_are_sound};
+use ir_types::Known;
 use std::alloc::Global;
+use std::marker::Brand;
 use std::process::ExitCode;
 use std::rt::{Env, Files};
+use std::sync::ledger::Blank;
 use std::{env, fs};
 
 /// What stands before the name of a text.
@@ -95,5 +100,20 @@ fn folded(alloc: Global, name: &str, func: &Func) -> anyhow::Result<String>
     let folded = shown(alloc, func, known.as_slice(), &least)?;
     let blank = Assignment::of(alloc, func, &[], &[])?;
     let given = shown(alloc, func, known.as_slice(), &blank)?;
-    Ok(format!(in alloc; "{folded}\n  with nothing given: {given}")?)
+    let said = said_of(alloc, func, known.as_slice(), &least)?;
+    Ok(format!(in alloc; "{folded}{said}\n  with nothing given: {given}")?)
+}
+
+// What the terminator of the first block asks for.
+fn said_of(alloc: Global, func: &Func, known: &[Known], a: &Assignment) -> anyhow::Result<String> {
+    match &func.body {
+        Some(body) => match body.blocks.get(0) {
+            Some(_) => {
+                let (said, steps) = first_said::<Brand>(func, known, a, Blank::new(1));
+                Ok(format!(in alloc; ", {said:?} in {steps} step")?)
+            }
+            None => Ok(String::new(alloc)),
+        },
+        None => Ok(String::new(alloc)),
+    }
 }
