@@ -1,7 +1,17 @@
--- Scalar types: their widths, the numbers of the integer types, and signed values in two's complement.
-use Rattle.std.specs.Prelude.{◌≢◌, ℕ, ◌-◌, ◌%◌, ◌^◌, Bool, false, nat_lt, ℤ, pos, negsuc, ◌-ℤ◌, neg_ℤ, if◌then◌else◌}
+-- Scalar types: whether two are one, their widths, the numbers of the integer types, and signed values in two's complement.
+use Rattle.std.specs.Prelude.{◌≢◌, ℕ, ◌-◌, ◌%◌, ◌^◌, Bool, true, false, nat_lt, ℤ, pos, negsuc, ◌-ℤ◌, neg_ℤ, if◌then◌else◌}
 use Rattle.ir_types.specs.declared.scalar.Scalar.{Scalar}
 use Rattle.ir_types.specs.declared.scalar.Scalar.TheVariants.{I1, I8, I16, I32, I64, Ptr}
+
+-- whether two scalars are one
+abbrev pub same : Scalar → Scalar → Bool
+same I1 I1 = true
+same I8 I8 = true
+same I16 I16 = true
+same I32 I32 = true
+same I64 I64 = true
+same Ptr Ptr = true
+same _ _ = false
 
 -- how many bits a value has
 abbrev pub width : Scalar → ℕ

@@ -4,11 +4,12 @@ use Rattle.std.specs.Fmt.{decimal}
 use Rattle.ir_lexer.specs.declared.token.Kind.TheVariants as kind
 use Rattle.ir_lexer.specs.Written.{Part, Spelling}
 use Rattle.ir_types.specs.declared.scalar.Scalar.{Scalar}
-use Rattle.ir_types.specs.declared.scalar.Scalar.TheVariants.{I1, I8, I16, I32, I64, Ptr}
+use Rattle.ir_types.specs.declared.scalar.Scalar.TheVariants.{I1, I64, Ptr}
 use Rattle.ir_types.specs.declared.scalar.Ext.{Ext}
 use Rattle.ir_types.specs.declared.scalar.Flags.{Flags}
 use Rattle.ir_types.specs.declared.scalar.FnType.{FnType}
 use Rattle.ir_types.specs.declared.shape.Ty.TheBlock.{One}
+use Rattle.ir_types.specs.Scalars.{same}
 use Rattle.ir_syntax.specs.declared.constant.Operand.{Operand}
 use Rattle.ir_syntax.specs.declared.constant.Operand.TheVariants as operand
 use Rattle.ir_syntax.specs.declared.body.Arg.{Arg}
@@ -62,16 +63,6 @@ abbrev pub flag_parts : Flags → Parts
 flag_parts flags = said flags.nuw (codes "nuw") ++ (said flags.nsw (codes "nsw") ++ (said flags.exact (codes "exact") ++ said flags.disjoint (codes "disjoint")))
 
 -- ---- calls
-
--- two scalars that are one
-abbrev pub same : Scalar → Scalar → Bool
-same I1 I1 = true
-same I8 I8 = true
-same I16 I16 = true
-same I32 I32 = true
-same I64 I64 = true
-same Ptr Ptr = true
-same _ _ = false
 
 abbrev pub same_types : List Scalar → List Scalar → Bool
 same_types [] [] = true

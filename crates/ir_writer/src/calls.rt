@@ -2,10 +2,11 @@
 #![tactic(auto, using(crate::proofs::Bytes::written))]
 
 ghost use Rattle.std.specs.Prelude.{◌≡◌, ◌∷◌, [], ◌++◌, ◌==◌, OnOk, map, codes, if◌then◌else◌};
+ghost use Rattle.ir_types.specs.Scalars.{same};
 ghost use Rattle.ir_lexer.specs.Written.{bytes_of};
 ghost use Rattle.ir_syntax.specs.FormedBody.{item_name};
 ghost use Rattle.ir_writer.specs.Words.{listed, scalar};
-ghost use Rattle.ir_writer.specs.Instructions.{same, same_types, is_whole, whole_parts, arg_parts, call_parts};
+ghost use Rattle.ir_writer.specs.Instructions.{same_types, is_whole, whole_parts, arg_parts, call_parts};
 
 use crate::operands::write_operand;
 use crate::words::{

@@ -1,6 +1,6 @@
 -- Names among names: places of distinct ones, and one more name.
 use Rattle.std.proofs.Common.{◌≡◌, ◌∙◌, ℕ, ◌+◌, ◌<◌, suc, zero, Bool, true, false, cond, not, ◌&&◌, List, [], ◌∷◌, ◌++◌, length, take, drop, get_or, Option, Some, None, option_map, bytes_eq, refl, sym, ap}
-use Rattle.std.proofs.lemmas.Bool.{false≢true, and_parts, and_from, not-true}
+use Rattle.std.proofs.lemmas.Bool.{false≢true, and_parts, and_from, and_right, not-true}
 use Rattle.std.proofs.lemmas.Slice.Eq.{bytes_eq-Decides}
 use Rattle.ir_types.proofs.ListSteps.{drop_at, take_at}
 use Rattle.name_table.specs.Places.{is_among, place_among, are_distinct}
@@ -89,14 +89,10 @@ pub distinct-double : (xs ys : List (List ℕ)) (y : List ℕ) → is_among y xs
 distinct-double [] ys y e = cc
 distinct-double (x ∷ xs) ys y e = cases (bytes_eq y x) refl e (distinct-double xs ys y)
   where
-    and_false : (b : Bool) → (b && false) ≡ false
-    and_false true = refl
-    and_false false = refl
-
     cases : (t : Bool) → bytes_eq y x ≡ t → cond t true (is_among y xs) ≡ true → (is_among y xs ≡ true → are_distinct (xs ++ y ∷ ys) ≡ false) →
         (not (is_among x (xs ++ y ∷ ys)) && are_distinct (xs ++ y ∷ ys)) ≡ false
     cases true q f ih = ap (λ b. not b && are_distinct (xs ++ y ∷ ys)) (ap (λ z. is_among z (xs ++ y ∷ ys)) (sym (same y x q)) ∙ among-here y xs ys)
-    cases false q f ih = ap (λ b. not (is_among x (xs ++ y ∷ ys)) && b) (ih f) ∙ and_false (not (is_among x (xs ++ y ∷ ys)))
+    cases false q f ih = ap (λ b. not (is_among x (xs ++ y ∷ ys)) && b) (ih f) ∙ and_right (not (is_among x (xs ++ y ∷ ys))) false refl
 
 pub distinct-front : (xs ys : List (List ℕ)) → are_distinct (xs ++ ys) ≡ true → are_distinct xs ≡ true
 distinct-front [] ys d = refl

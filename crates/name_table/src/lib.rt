@@ -3,7 +3,7 @@
 
 ghost use Rattle.std.specs.Prelude.{◌≡◌, ◌<◌, ◌∷◌, [], ◌++◌, true, false, Some, length, IfOk, OnOk, OnErr, IfSome, MatchBool};
 ghost use Rattle.name_table.specs.Places.{place_among, is_among};
-ghost use Rattle.name_table.specs.Placed.{IsPlaced};
+ghost use Rattle.name_table.specs.Mirrors.Placed.{IsPlaced};
 
 use indexmap::IndexSet;
 use ir_types::OutOfMemory;
