@@ -2,7 +2,7 @@
 use crate::failed::Failed;
 use crate::fixtures::pairs;
 use crate::instructions::{func, module};
-use ir_syntax::{Func, Item, Module, Program, Var};
+use ir_syntax::{Func, Item, Module, Var};
 use ir_types::{Bytes, Copied, FnType, Known, List, OutOfMemory, Scalar, align_of, size_of};
 use std::alloc::Global;
 
@@ -10,8 +10,7 @@ pub fn print_rows<R: Print + AllocGlobal>(rt: &R) -> Result<(), Failed> {
     print_bytes(rt)?;
     print_types(rt)?;
     print_functions(rt)?;
-    print_modules(rt)?;
-    print_program(rt)
+    print_modules(rt)
 }
 
 /// The bytes `abcde`, put together.
@@ -110,24 +109,5 @@ fn print_variable<R: Print>(rt: &R, var: &Var) -> Result<(), Failed> {
     let init = &var.init;
     println!(rt; "copied variable is v: {is_named}")?;
     println!(rt; "copied variable's constant: {init:?}")?;
-    Ok(())
-}
-
-/// How many modules the program of a module without items has.
-fn modules(alloc: Global) -> Result<usize, OutOfMemory> {
-    let program = Program::of(
-        alloc,
-        Module {
-            layout: None,
-            triple: None,
-            items: List::new(alloc),
-        },
-    )?;
-    Ok(program.modules().len())
-}
-
-fn print_program<R: Print + AllocGlobal>(rt: &R) -> Result<(), Failed> {
-    let modules = modules(rt.alloc())?;
-    println!(rt; "modules of the program: {modules}")?;
     Ok(())
 }

@@ -2,11 +2,12 @@
 use crate::plans::program_of;
 use crate::text::{demand_text, pattern, words_text};
 use demand_core::Row;
-use demands::{Demand, RowFault, demand_of, row_of};
-use ir_syntax::{Program, Sym};
+use demands::{Demand, RowFault, demand_among, row_of};
+use ir_syntax::Sym;
 use ir_types::Known::{Null, Num, Unknown};
 use ir_types::{Known, OutOfMemory};
 use std::alloc::Global;
+use straight_plan::StraightProgram;
 
 /// A program of one function of two words.
 const TEXT: &str = "define i32 @f(i32 %a, i32 %b) {\n  ret i32 %a\n}\n";
@@ -17,6 +18,7 @@ pub fn lines(alloc: Global) -> Result<Vec<String>, OutOfMemory> {
     add_rows(alloc, &mut lines)?;
     match program_of(alloc, TEXT, "f", 2)? {
         Some(program) => {
+            lines.push(modules_line(alloc, &program)?)?;
             add_found(alloc, &program, &mut lines)?;
             add_missed(alloc, &program, &mut lines)?;
         }
@@ -56,7 +58,17 @@ fn row_line(alloc: Global, demand: &Demand, row: &Row) -> Result<String, OutOfMe
     Ok(format!(in alloc; "row of {name}: {words}")?)
 }
 
-fn add_found(alloc: Global, program: &Program, lines: &mut Vec<String>) -> Result<(), OutOfMemory> {
+/// How many modules the program has.
+fn modules_line(alloc: Global, program: &StraightProgram) -> Result<String, OutOfMemory> {
+    let count = program.modules().len();
+    Ok(format!(in alloc; "modules of the program: {count}")?)
+}
+
+fn add_found(
+    alloc: Global,
+    program: &StraightProgram,
+    lines: &mut Vec<String>,
+) -> Result<(), OutOfMemory> {
     let table: [&[u64]; 4] = [
         &[0, 0, 0, 0],
         &[0, 1, 3, 0],
@@ -71,7 +83,7 @@ fn add_found(alloc: Global, program: &Program, lines: &mut Vec<String>) -> Resul
 
 fn add_missed(
     alloc: Global,
-    program: &Program,
+    program: &StraightProgram,
     lines: &mut Vec<String>,
 ) -> Result<(), OutOfMemory> {
     let table: [&[u64]; 15] = [
@@ -98,7 +110,11 @@ fn add_missed(
 }
 
 /// The demand of the program that has the row of these words, and its row again.
-fn demand_line(alloc: Global, program: &Program, words: &[u64]) -> Result<String, OutOfMemory> {
+fn demand_line(
+    alloc: Global,
+    program: &StraightProgram,
+    words: &[u64],
+) -> Result<String, OutOfMemory> {
     let name = words_text(alloc, words)?;
     match Row::of(words) {
         Some(row) => {
@@ -109,8 +125,8 @@ fn demand_line(alloc: Global, program: &Program, words: &[u64]) -> Result<String
     }
 }
 
-fn answer(alloc: Global, program: &Program, row: &Row) -> Result<String, OutOfMemory> {
-    match demand_of(alloc, program, row) {
+fn answer(alloc: Global, program: &StraightProgram, row: &Row) -> Result<String, OutOfMemory> {
+    match demand_among(alloc, program.modules(), row) {
         Ok(demand) => {
             let again = row_of(&demand);
             let text = demand_text(alloc, &demand)?;

@@ -6,14 +6,14 @@ ghost use Rattle.straight_plan.specs.Asked.{program_items};
 use crate::least_sets::refusal;
 use crate::left::module_text;
 use demand_core::Row;
-use demands::{Demand, clone_name, demand_of};
+use demands::{Demand, clone_name, demand_among};
 use fixed_point::FixFault;
-use ir_syntax::{Module, Program};
+use ir_syntax::Module;
 use ir_types::{Known, OutOfMemory};
 use std::alloc::Global;
 use straight_fold::{least_plan_is_a_plan, plan, root_of, root_suits};
 use straight_leave::{clones, leave, originals};
-use straight_plan::{Ask, Cut};
+use straight_plan::{Ask, Cut, StraightProgram};
 use straight_reader::{read, the_form_is_straight};
 
 /// A module of four functions.
@@ -120,10 +120,10 @@ pub fn program_of(
     text: &str,
     entry: &str,
     count: usize,
-) -> Result<Option<Program>, OutOfMemory> {
+) -> Result<Option<StraightProgram>, OutOfMemory> {
     the_form_is_straight();
     match read(alloc, text.as_bytes(), entry.as_bytes(), count)? {
-        Some(module) => Ok(Some(Program::of(alloc, module)?)),
+        Some(module) => Ok(Some(StraightProgram::of(alloc, module)?)),
         None => Ok(None),
     }
 }
@@ -136,14 +136,18 @@ struct Entry {
 }
 
 /// The entry that has this row.
-fn entry_of(alloc: Global, program: &Program, words: &[u64]) -> Result<Option<Entry>, OutOfMemory>
+fn entry_of(
+    alloc: Global,
+    program: &StraightProgram,
+    words: &[u64],
+) -> Result<Option<Entry>, OutOfMemory>
     ensures { IfOk result (λ found. IfSome found (λ entry. IsFunctionFor entry.args.items (slice_get (program_items program.now) entry.place))) }
 {
     let row = match Row::of(words) {
         Some(row) => row,
         None => return Ok(None),
     };
-    match demand_of(alloc, program, &row) {
+    match demand_among(alloc, program.modules(), &row) {
         Ok(Demand::Func { func, pattern }) if func.module == 0 => Ok(Some(Entry {
             place: func.item,
             args: Vec::from_slice(alloc, pattern.items())?,
@@ -152,7 +156,7 @@ fn entry_of(alloc: Global, program: &Program, words: &[u64]) -> Result<Option<En
     }
 }
 
-fn planned(alloc: Global, program: &Program, words: &[u64]) -> Result<String, OutOfMemory> {
+fn planned(alloc: Global, program: &StraightProgram, words: &[u64]) -> Result<String, OutOfMemory> {
     match entry_of(alloc, program, words)? {
         Some(entry) => match plan(alloc, program, entry.place, entry.args.as_slice()) {
             Ok(cuts) => names(alloc, cuts.as_slice()),
@@ -182,7 +186,7 @@ fn names(alloc: Global, cuts: &[Cut]) -> Result<String, OutOfMemory> {
     Ok(text)
 }
 
-fn left(alloc: Global, program: &Program, words: &[u64]) -> Result<String, OutOfMemory> {
+fn left(alloc: Global, program: &StraightProgram, words: &[u64]) -> Result<String, OutOfMemory> {
     match entry_of(alloc, program, words)? {
         Some(entry) => match left_text(alloc, program, entry.place, entry.args.as_slice()) {
             Ok(text) => Ok(text),
@@ -195,7 +199,7 @@ fn left(alloc: Global, program: &Program, words: &[u64]) -> Result<String, OutOf
 /// What the least plan of an entry leaves, and how many functions and copies that is.
 fn left_text(
     alloc: Global,
-    program: &Program,
+    program: &StraightProgram,
     place: usize,
     args: &[Known],
 ) -> Result<String, FixFault>

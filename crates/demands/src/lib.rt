@@ -14,5 +14,5 @@ pub use laws::{demands_are_ordered, names_are_apart, rows_are_apart, rows_are_re
 pub use names::clone_name;
 pub use order::demand_cmp;
 pub use pattern::Pattern;
-pub use reading::{RowFault, demand_of};
+pub use reading::{RowFault, demand_among, demand_of};
 pub use rows::row_of;

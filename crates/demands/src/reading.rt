@@ -166,21 +166,36 @@ fn demand_at(
     }
 }
 
+/// The demand of these modules that has this row: what `demand_of` answers for a program of them.
+///
+/// A demand is a variable with an initialiser, or a function with a body, where each item of the pattern is
+/// unknown, a number below 2^w at an integer parameter of width w, or null at a `ptr` parameter. `NoDemand` says that no
+/// demand of the modules has the row, and `OutOfMemory` that the allocator refused memory.
+pub fn demand_among(alloc: Global, modules: &[Module], row: &Row) -> Result<Demand, RowFault>
+    ensures found { IfOk result (λ d. IsDemand modules.now d × (words_of d ≡ row.now)) }
+    ensures none { IfErr result (IsCause modules.now row.now) }
+    // The same of what is read of the row, as the law of rows that are read has it.
+    ensures read { IfOk result (λ d. read_row modules.now row.now ≡ Some d) }
+    ensures none_read { IfErr result (IsNoneOrNoMemory (read_row modules.now row.now)) }
+{
+    let words = row.words();
+    if words.len() < 2 {
+        return Err(RowFault::NoDemand);
+    }
+    demand_at(alloc, modules, words[0], words[1], &words[2..])
+}
+
 /// The demand of a program that has this row.
 ///
 /// A demand of a program is a variable with an initialiser, or a function with a body, where each item of the pattern is
 /// unknown, a number below 2^w at an integer parameter of width w, or null at a `ptr` parameter. `NoDemand` says that no
 /// demand of the program has the row, and `OutOfMemory` that the allocator refused memory.
 pub fn demand_of(alloc: Global, p: &Program, row: &Row) -> Result<Demand, RowFault>
-    ensures found { IfOk result (λ d. IsDemand p.now d × (words_of d ≡ row.now)) }
-    ensures none { IfErr result (IsCause p.now row.now) }
+    ensures found { IfOk result (λ d. IsDemand p.now.modules d × (words_of d ≡ row.now)) }
+    ensures none { IfErr result (IsCause p.now.modules row.now) }
     // The same of what is read of the row, as the law of rows that are read has it.
-    ensures read { IfOk result (λ d. read_row p.now row.now ≡ Some d) }
-    ensures none_read { IfErr result (IsNoneOrNoMemory (read_row p.now row.now)) }
+    ensures read { IfOk result (λ d. read_row p.now.modules row.now ≡ Some d) }
+    ensures none_read { IfErr result (IsNoneOrNoMemory (read_row p.now.modules row.now)) }
 {
-    let words = row.words();
-    if words.len() < 2 {
-        return Err(RowFault::NoDemand);
-    }
-    demand_at(alloc, p.modules(), words[0], words[1], &words[2..])
+    demand_among(alloc, p.modules(), row)
 }

@@ -1,6 +1,7 @@
 pub mod IndexLemmas
 pub mod MappedLemmas
 pub mod NameLemmas
+pub mod ProgramLemmas
 pub mod ResultLemmas
 pub mod Sent
 pub mod Shared

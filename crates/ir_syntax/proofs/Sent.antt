@@ -13,9 +13,12 @@ use Rattle.ir_types.proofs.scalar.CastOp.TheSendSync as cast_op
 use Rattle.ir_types.proofs.scalar.Pred.TheSendSync as pred
 use Rattle.ir_types.proofs.scalar.Flags.TheSendSync as flags
 use Rattle.ir_types.proofs.scalar.FnType.TheSendSync as fn_type
+use Rattle.ir_types.proofs.scalar.Known.TheSendSync as known
 use Rattle.ir_types.proofs.Sent.{ty-send}
 use Rattle.ir_syntax.proofs.item.Linkage.TheSendSync as linkage
 use Rattle.ir_syntax.proofs.item.Param.TheSendSync as param
+use Rattle.ir_syntax.proofs.symbol.Sym.TheSendSync as symbol
+use Rattle.ir_syntax.proofs.symbol.Target.TheSendSync as target
 use Rattle.ir_syntax.specs.declared.constant.Const.TheBlock as const_block
 use Rattle.ir_syntax.specs.contracts.constant.Const as Const
 use Rattle.ir_syntax.specs.contracts.constant.Const.TheKnot as const
@@ -92,7 +95,7 @@ pub module-send : IsSend Module.the_row
 module-send = declared_send Module.the_type (search (parts, item-send) depth 30)
 
 inside-send : IsSend Inside.the_row
-inside-send = declared_send Inside.the_type (search (parts, module-send) depth 30)
+inside-send = declared_send Inside.the_type (search (parts, module-send, symbol.the_send, target.the_send, known.the_send) depth 30)
 
 pub program-send : IsSend Program.the_row
 program-send = view_send Inside.the_row _ _ _ _ inside-send

@@ -13,9 +13,12 @@ use Rattle.ir_types.proofs.scalar.CastOp.TheSendSync as cast_op
 use Rattle.ir_types.proofs.scalar.Pred.TheSendSync as pred
 use Rattle.ir_types.proofs.scalar.Flags.TheSendSync as flags
 use Rattle.ir_types.proofs.scalar.FnType.TheSendSync as fn_type
+use Rattle.ir_types.proofs.scalar.Known.TheSendSync as known
 use Rattle.ir_types.proofs.Shared.{ty-sync}
 use Rattle.ir_syntax.proofs.item.Linkage.TheSendSync as linkage
 use Rattle.ir_syntax.proofs.item.Param.TheSendSync as param
+use Rattle.ir_syntax.proofs.symbol.Sym.TheSendSync as symbol
+use Rattle.ir_syntax.proofs.symbol.Target.TheSendSync as target
 use Rattle.ir_syntax.specs.declared.constant.Const.TheBlock as const_block
 use Rattle.ir_syntax.specs.contracts.constant.Const as Const
 use Rattle.ir_syntax.specs.contracts.constant.Const.TheKnot as const
@@ -92,7 +95,7 @@ pub module-sync : IsSync Module.the_row
 module-sync = declared_sync Module.the_type (search (parts, item-sync) depth 30)
 
 inside-sync : IsSync Inside.the_row
-inside-sync = declared_sync Inside.the_type (search (parts, module-sync) depth 30)
+inside-sync = declared_sync Inside.the_type (search (parts, module-sync, symbol.the_sync, target.the_sync, known.the_sync) depth 30)
 
 pub program-sync : IsSync Program.the_row
 program-sync = view_sync Inside.the_row _ _ _ _ inside-sync

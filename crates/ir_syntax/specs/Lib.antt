@@ -11,8 +11,12 @@ pub mod Intrinsics
 pub mod Mapped
 pub mod Named
 pub mod Operands
+pub mod Programs
+pub mod Refusals
 pub mod Results
 pub mod SoundFunctions
 pub mod Straight
 pub mod Suits
+pub mod Symbols
+pub mod Targets
 pub mod Typed

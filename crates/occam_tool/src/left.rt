@@ -20,14 +20,14 @@ use crate::reading::{Stop, read_whole};
 use crate::refusing::{not_of_form, of_file, out_of_memory};
 use crate::{Refusal, Report};
 use fixed_point::FixFault;
-use ir_syntax::{Module, Program};
+use ir_syntax::Module;
 use ir_types::{Bytes, Known, OutOfMemory};
 use ir_writer::{straight_modules_are_written, write_module};
 use occam_base::{Code, Shelf};
 use std::alloc::Global;
 use straight_fold::{least_plan_is_a_plan, plan, root_of};
 use straight_leave::{clones, originals, what_is_left_is_straight};
-use straight_plan::{Ask, Cut};
+use straight_plan::{Ask, Cut, StraightProgram};
 use straight_reader::the_form_is_straight;
 
 const MODULE_LIMIT: usize = 16_777_216;
@@ -85,14 +85,14 @@ pub fn leave(alloc: Global, module: Module, entry: &[u8], args: &[Known]) -> Res
         Some(place) => place,
         None => return Err(FixFault::OutOfMemory),
     };
-    let program = Program::of(alloc, module)?;
+    let program = StraightProgram::of(alloc, module)?;
     leave_program(alloc, &program, place, args, before)
 }
 
 // The same for a program of the one module, whose entry stands at a place.
 fn leave_program(
     alloc: Global,
-    program: &Program,
+    program: &StraightProgram,
     place: usize,
     args: &[Known],
     before: u64,
@@ -111,7 +111,7 @@ fn leave_program(
 }
 
 // The one module of a program.
-fn only_module(program: &Program) -> &Module
+fn only_module(program: &StraightProgram) -> &Module
     ensures only { program.now ≡ result.now ∷ [] }
     ensures straight { IsStraight result.now }
 {

@@ -33,8 +33,8 @@ use Rattle.ir_syntax.specs.contracts.item.Var as Var
 use Rattle.ir_syntax.specs.contracts.item.Func as Func
 use Rattle.ir_syntax.specs.contracts.item.Item as Item
 use Rattle.ir_syntax.specs.contracts.item.Module as Module
-use Rattle.ir_syntax.specs.contracts.program.Program as Program
-use Rattle.ir_syntax.specs.contracts.program.Program.TheInside as Inside
+use Rattle.straight_plan.specs.contracts.program.StraightProgram as Program
+use Rattle.straight_plan.specs.contracts.program.StraightProgram.TheInside as Inside
 
 both : {A B : Type 0} → A → B → A × B
 both a b = (a, b)

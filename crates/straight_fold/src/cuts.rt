@@ -16,10 +16,9 @@ use crate::root::root_in;
 use demand_core::Row;
 use demands::{Demand, demand_cmp, demands_are_ordered, rows_are_read};
 use fixed_point::{FixFault, least, rows_are_needed_in_any_order};
-use ir_syntax::Program;
 use ir_types::{Known, List, OutOfMemory};
 use std::alloc::Global;
-use straight_plan::{Ask, Cut};
+use straight_plan::{Ask, Cut, StraightProgram};
 
 /// The functions of the pieces, last first.
 fn functions_of(alloc: Global, mut pairs: List<(Row, Piece)>) -> Result<Vec<Found>, OutOfMemory>
@@ -83,7 +82,7 @@ fn cuts_of(alloc: Global, found: Vec<Found>) -> Result<List<Cut>, OutOfMemory>
 /// of any answer.
 pub fn plan(
     alloc: Global,
-    program: &Program,
+    program: &StraightProgram,
     place: usize,
     args: &[Known],
 ) -> Result<List<Cut>, FixFault>

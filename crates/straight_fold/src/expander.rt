@@ -9,15 +9,16 @@ use crate::facts::facts_of;
 use crate::items::{insts_at, items_of};
 use crate::piece::{Found, Piece};
 use demand_core::{Expand, Row};
-use demands::{Demand, Pattern, RowFault, demand_of};
-use ir_syntax::{Item, Program, Sym};
+use demands::{Demand, Pattern, RowFault, demand_among};
+use ir_syntax::{Item, Sym};
 use ir_types::{List, OutOfMemory};
 use std::alloc::Global;
+use straight_plan::StraightProgram;
 
 /// Expands the rows of a program's demands.
 #[derive(Drop)]
 pub(crate) struct Expander<'p> {
-    pub(crate) program: &'p Program,
+    pub(crate) program: &'p StraightProgram,
 }
 
 /// What the row of a function expands into.
@@ -70,7 +71,7 @@ impl<'p> Expand for Expander<'p> {
 
     fn expand(&self, alloc: Global, row: &Row) -> Result<Piece, OutOfMemory> {
         let items = items_of(self.program);
-        match demand_of(alloc, self.program, row) {
+        match demand_among(alloc, self.program.modules(), row) {
             Ok(Demand::Func { func, pattern }) => piece_of(alloc, items, func, pattern),
             Ok(Demand::Var { .. }) => Ok(nothing(alloc)),
             Err(RowFault::NoDemand) => Ok(nothing(alloc)),

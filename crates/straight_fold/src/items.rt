@@ -5,13 +5,14 @@ ghost use Rattle.straight_plan.specs.Asked.{body_insts, insts_at, is_copied, is_
 ghost use Rattle.std.specs.List.{list_any};
 ghost use Rattle.straight_fold.specs.Items.{AreStraightItems};
 
-use ir_syntax::{Body, Const, Func, Inst, Item, Operand, Program};
+use ir_syntax::{Body, Const, Func, Inst, Item, Operand};
+use straight_plan::StraightProgram;
 
 // A function with a longer name isn't copied.
 const LONGEST_NAME: usize = 3_072;
 
 /// The items of the program's module.
-pub(crate) fn items_of(program: &Program) -> &[Item]
+pub(crate) fn items_of(program: &StraightProgram) -> &[Item]
     ensures items { result.now ≡ program_items program.now }
     ensures straight { AreStraightItems result.now }
     ensures program { IsStraightProgram program.now }

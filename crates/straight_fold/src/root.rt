@@ -6,10 +6,10 @@ ghost use Rattle.straight_fold.specs.Items.{AreStraightItems};
 
 use crate::calls::{asked_pattern, forgotten};
 use crate::items::{is_named, items_of};
-use ir_syntax::{Item, Program};
+use ir_syntax::Item;
 use ir_types::{Known, OutOfMemory};
 use std::alloc::Global;
-use straight_plan::Ask;
+use straight_plan::{Ask, StraightProgram};
 
 /// The same among the program's items.
 pub(crate) fn root_in(
@@ -34,7 +34,7 @@ pub(crate) fn root_in(
 /// names the entry, or where its name is too long for a copy. `OutOfMemory` says that the allocator refused memory.
 pub fn root_of(
     alloc: Global,
-    program: &Program,
+    program: &StraightProgram,
     place: usize,
     args: &[Known],
 ) -> Result<Ask, OutOfMemory>

@@ -4,6 +4,8 @@
 
 mod cut;
 mod fact;
+mod program;
 
 pub use cut::{Ask, Cut};
 pub use fact::Fact;
+pub use program::StraightProgram;
