@@ -1,5 +1,11 @@
-pub mod Others
 pub mod Powers
-pub mod Depths
+pub mod Turns
+pub mod Called
+pub mod AllShapes
+pub mod Apart
+pub mod Sound
+pub mod Within
+pub mod DistinctFlags
+pub mod Complete
+pub mod Derivations
 pub mod Steps
-pub mod Counts

@@ -1,98 +1,99 @@
--- Blocks, phis, instructions and terminators: what may stand there, token by token.
-use Rattle.std.specs.Prelude.{[], ◌∷◌, if◌then◌else◌}
-use Rattle.ir_grammar.specs.declared.shape.Shape.{Shape}
-use Rattle.ir_grammar.specs.declared.shape.Shape.TheVariants as is
-use Rattle.ir_grammar.specs.declared.symbol.Keep.TheVariants as keep
-use Rattle.ir_grammar.specs.declared.symbol.Symbol.TheVariants as sym
-use Rattle.ir_types.specs.declared.scalar.Scalar.TheVariants as scalar
-use Rattle.ir_grammar.specs.Turns.{Turn, Takes, Leaves, Refuses, followed_by}
+-- Bodies, blocks, phis and terminators.
+-- LLVM Language Reference Manual: "Functions", "'phi' Instruction", "'store' Instruction", "Terminator Instructions".
+use Rattle.std.specs.Prelude.{Bool, true, false, List, [], ◌∷◌, ◌++◌, map}
 use Rattle.ir_types.specs.declared.scalar.Scalar.{Scalar}
-use Rattle.ir_grammar.specs.Scalars.{same}
+use Rattle.ir_types.specs.declared.scalar.Scalar.TheVariants as scalar
+use Rattle.ir_grammar.specs.declared.shape.Shape.TheVariants as is
+use Rattle.ir_grammar.specs.declared.grammar.Terminal.TheVariants as a
+use Rattle.ir_grammar.specs.declared.grammar.Keep.TheVariants as keep
+use Rattle.ir_grammar.specs.declared.grammar.Name.TheVariants as the
+use Rattle.ir_grammar.specs.declared.grammar.Item.TheVariants as item
+use Rattle.ir_grammar.specs.Items.{Production, keeps, drops, keeps_as, kept, each_then, comma, equals, open_square, close_square, ptr, label, a_scalar, a_local, extended, attachments, scalars}
 use Rattle.ir_grammar.specs.Values.{value}
+use Rattle.ir_grammar.specs.Calls.{named_call}
 
--- { blocks }
-abbrev pub body : Shape → Turn
-body is.OpenBrace = Takes keep.Keeps (sym.FirstBlock ∷ [])
-body _ = Refuses
+-- { [label] lines blocks }
+abbrev pub body : List Production
+body = keeps (a.Only is.OpenBrace) (item.May the.Label ∷ item.One (the.Lines true) ∷ item.Many the.Block ∷ kept (a.Only is.CloseBrace) ∷ []) ∷ []
 
--- instructions, dropped records and dropped calls, and the terminator
-abbrev pub insts : Shape → Turn
-insts is.Local = Takes (keep.As is.Result) (sym.Equals ∷ sym.NamedInst ∷ [])
-insts is.Record = Takes keep.Drops (sym.Group ∷ sym.Insts ∷ [])
-insts is.Store = Takes keep.Keeps (sym.OneScalar ∷ sym.Operand ∷ sym.Comma ∷ sym.Pointer ∷ sym.Operand ∷ sym.AlignTrailers ∷ sym.Insts ∷ [])
-insts is.Call = Takes keep.Keeps (sym.ExtAttributes ∷ sym.CallReturn ∷ [])
-insts is.Tail = Takes keep.Drops (sym.CallWord ∷ sym.ExtAttributes ∷ sym.CallReturn ∷ [])
-insts is.Ret = Takes keep.Keeps (sym.ReturnValue ∷ [])
-insts is.Br = Takes keep.Keeps (sym.Branch ∷ [])
-insts is.Switch = Takes keep.Keeps (sym.SwitchType ∷ [])
-insts is.Unreachable = Takes keep.Keeps (sym.Trailers ∷ sym.BlockEnd ∷ [])
-insts shape = followed_by sym.Insts (value shape)
+-- label lines
+abbrev pub block : List Production
+block = keeps (a.Only is.Label) (item.One (the.Lines true) ∷ []) ∷ []
 
--- phis, dropped records and dropped calls, and then what else a block has
-abbrev pub phis : Shape → Turn
-phis is.Local = Takes (keep.As is.Result) (sym.Equals ∷ sym.NamedPhi ∷ [])
-phis is.Phi = Takes keep.Keeps (sym.OneScalar ∷ sym.PhiEntry ∷ sym.MorePhi ∷ sym.Phis ∷ [])
-phis is.Record = Takes keep.Drops (sym.Group ∷ sym.Phis ∷ [])
-phis is.Call = Takes keep.Keeps (sym.ExtAttributes ∷ sym.PhiCallReturn ∷ [])
-phis is.Tail = Takes keep.Drops (sym.CallWord ∷ sym.ExtAttributes ∷ sym.PhiCallReturn ∷ [])
-phis shape = insts shape
+abbrev pub label_alone : List Production
+label_alone = keeps (a.Only is.Label) [] ∷ []
 
--- a block, with or without a label, and more of them
-abbrev pub first_block : Shape → Turn
-first_block is.Label = Takes keep.Keeps (sym.Phis ∷ [])
-first_block shape = phis shape
+-- phi T [ a, %l ], [ b, %m ] attachments, behind which phis may still come
+abbrev pub phi_alone : List Production
+phi_alone = keeps (a.Only is.Phi) (a_scalar ∷ kept (a.Only is.OpenSquare) ∷ item.One the.Operand ∷ comma ∷ a_local ∷ close_square ∷ item.May the.EntryPart ∷ item.One (the.Lines true) ∷ []) ∷ []
 
--- a phi or another instruction that has a result
-abbrev pub named_phi : Shape → Turn
-named_phi is.Phi = Takes keep.Keeps (sym.OneScalar ∷ sym.PhiEntry ∷ sym.MorePhi ∷ sym.Phis ∷ [])
-named_phi shape = followed_by sym.Insts (value shape)
+abbrev pub phis_where : Bool → List Production
+phis_where true = phi_alone
+phis_where false = []
 
--- [ a, %l ]
-abbrev pub phi_entry : Shape → Turn
-phi_entry is.OpenSquare = Takes keep.Keeps (sym.Operand ∷ sym.Comma ∷ sym.LocalName ∷ sym.CloseSquare ∷ [])
-phi_entry _ = Refuses
+-- , and an entry or an attachment
+abbrev pub entry_part : List Production
+entry_part = drops (a.Only is.Comma) (item.One the.EntryOrAttachment ∷ []) ∷ []
 
--- any number of entries, each behind a comma, and attachments
-abbrev pub more_phi : Shape → Turn
-more_phi is.Comma = Takes keep.Drops (sym.NextPhi ∷ [])
-more_phi _ = Leaves
+-- [ a, %l ], and more of them, or !name node attachments
+abbrev pub entry_or_attachment : List Production
+entry_or_attachment =
+    keeps (a.Only is.OpenSquare) (item.One the.Operand ∷ comma ∷ a_local ∷ close_square ∷ item.May the.EntryPart ∷ [])
+    ∷ drops a.AnyMeta (item.One the.AttachedNode ∷ attachments)
+    ∷ []
 
--- an entry, and more of them, or an attachment
-abbrev pub next_phi : Shape → Turn
-next_phi is.OpenSquare = Takes keep.Keeps (sym.Operand ∷ sym.Comma ∷ sym.LocalName ∷ sym.CloseSquare ∷ sym.MorePhi ∷ [])
-next_phi is.Bang = Takes keep.Drops (sym.SecondMeta ∷ sym.Trailers ∷ [])
-next_phi is.Meta = Takes keep.Drops (sym.SecondMeta ∷ sym.Trailers ∷ [])
-next_phi _ = Refuses
+abbrev pub terminators : List Production
+terminators =
+    -- ret void, or ret T a
+    keeps (a.Only is.Ret) (item.One the.ReturnValue ∷ attachments)
+    -- br label %l, or br i1 c, label %l, label %m
+    ∷ keeps (a.Only is.Br) (item.One the.Branch ∷ attachments)
+    -- switch T v, label %d [ cases ]
+    ∷ keeps (a.Only is.Switch) (item.One the.SwitchType ∷ attachments)
+    ∷ keeps (a.Only is.Unreachable) attachments
+    ∷ []
 
--- an instruction that has a result
-abbrev pub named_inst : Shape → Turn
-named_inst shape = followed_by sym.Insts (value shape)
+-- lines other than instructions that have a result and terminators
+abbrev pub own_lines : Bool → List Production
+own_lines phis =
+    -- %name = instruction
+    keeps_as keep.AsResult (a.Only is.Local) (equals ∷ item.One (the.NamedLine phis) ∷ [])
+    -- #dbg_name group
+    ∷ drops (a.Only is.Record) (item.One the.Group ∷ item.One (the.Lines phis) ∷ [])
+    -- store T a, ptr p [, align n] attachments
+    ∷ keeps (a.Only is.Store) (a_scalar ∷ item.One the.Operand ∷ comma ∷ ptr ∷ item.One the.Operand ∷ item.May the.AlignPart ∷ item.One (the.Lines false) ∷ [])
+    -- [tail] call attributes ..
+    ∷ keeps (a.Only is.Call) (extended (item.One (the.Called phis) ∷ []))
+    ∷ drops (a.Only is.Tail) (kept (a.Only is.Call) ∷ extended (item.One (the.Called phis) ∷ []))
+    ∷ []
+
+-- The lines of a block: phis, then other instructions, then a terminator, and debug records and calls that are dropped
+-- between them.
+abbrev pub lines : Bool → List Production
+lines phis = own_lines phis ++ (phis_where phis ++ (terminators ++ each_then (item.One (the.Lines false) ∷ []) value))
+
+-- an instruction with a name, and the lines behind it
+abbrev pub named_line : Bool → List Production
+named_line phis = phis_where phis ++ each_then (item.One (the.Lines false) ∷ []) (named_call ++ value)
 
 -- void, or T a
-abbrev pub return_value : Shape → Turn
-return_value is.Void = Takes keep.Keeps (sym.Trailers ∷ sym.BlockEnd ∷ [])
-return_value (is.Scalar _) = Takes keep.Keeps (sym.Operand ∷ sym.Trailers ∷ sym.BlockEnd ∷ [])
-return_value _ = Refuses
+abbrev pub return_value : List Production
+return_value = keeps (a.Only is.Void) [] ∷ keeps a.AnyScalar (item.One the.Operand ∷ []) ∷ []
 
 -- label %l, or i1 c, label %l, label %m
-abbrev pub branch : Shape → Turn
-branch is.LabelWord = Takes keep.Drops (sym.LocalName ∷ sym.Trailers ∷ sym.BlockEnd ∷ [])
-branch (is.Scalar scalar.I1) = Takes keep.Keeps (sym.Operand ∷ sym.Comma ∷ sym.LabelWord ∷ sym.LocalName ∷ sym.Comma ∷ sym.LabelWord ∷ sym.LocalName ∷ sym.Trailers ∷ sym.BlockEnd ∷ [])
-branch _ = Refuses
+abbrev pub branch : List Production
+branch =
+    drops (a.Only is.LabelWord) (a_local ∷ [])
+    ∷ keeps (a.Only (is.Scalar scalar.I1)) (item.One the.Operand ∷ comma ∷ label ∷ a_local ∷ comma ∷ label ∷ a_local ∷ [])
+    ∷ []
 
 -- T v, label %d [ cases ]
-abbrev pub switch_type : Shape → Turn
-switch_type (is.Scalar ty) = followed_by (sym.Cases ty) (Takes keep.Keeps (sym.Operand ∷ sym.Comma ∷ sym.LabelWord ∷ sym.LocalName ∷ sym.OpenSquare ∷ []))
-switch_type _ = Refuses
+abbrev pub switch_of : Scalar → Production
+switch_of ty = keeps (a.Only (is.Scalar ty)) (item.One the.Operand ∷ comma ∷ label ∷ a_local ∷ open_square ∷ item.Many (the.Case ty) ∷ kept (a.Only is.CloseSquare) ∷ [])
 
--- ] or T c, label %l, with the type of v, and more of them
-abbrev pub cases : Scalar → Shape → Turn
-cases ty is.CloseSquare = Takes keep.Keeps (sym.Trailers ∷ sym.BlockEnd ∷ [])
-cases ty (is.Scalar other) = if same ty other then followed_by (sym.Cases ty) (Takes keep.Drops (sym.Number ∷ sym.Comma ∷ sym.LabelWord ∷ sym.LocalName ∷ [])) else Refuses
-cases ty _ = Refuses
+abbrev pub switch_type : List Production
+switch_type = map switch_of scalars
 
--- the label of the next block, or }
-abbrev pub block_end : Shape → Turn
-block_end is.Label = Takes keep.Keeps (sym.Phis ∷ [])
-block_end is.CloseBrace = Takes keep.Keeps []
-block_end _ = Refuses
+-- T n, label %l
+abbrev pub case : Scalar → List Production
+case ty = drops (a.Only (is.Scalar ty)) (item.One the.Number ∷ comma ∷ label ∷ a_local ∷ []) ∷ []

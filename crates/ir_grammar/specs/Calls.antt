@@ -1,82 +1,73 @@
--- Calls: what may stand there, token by token.
-use Rattle.std.specs.Prelude.{[], ◌∷◌}
-use Rattle.ir_grammar.specs.declared.shape.Shape.{Shape}
-use Rattle.ir_grammar.specs.declared.shape.Shape.TheVariants as is
+-- Calls.
+-- LLVM Language Reference Manual: "'call' Instruction".
+use Rattle.std.specs.Prelude.{Bool, false, List, [], ◌∷◌, ◌++◌}
+use Rattle.ir_grammar.specs.declared.grammar.Item.{Item}
 use Rattle.ir_grammar.specs.declared.shape.AtName.TheVariants as at
-use Rattle.ir_grammar.specs.declared.symbol.Keep.TheVariants as keep
-use Rattle.ir_grammar.specs.declared.symbol.Symbol.TheVariants as sym
-use Rattle.ir_grammar.specs.Turns.{Turn, Takes, Leaves, Refuses, followed_by}
-use Rattle.ir_grammar.specs.Constants.{operand}
+use Rattle.ir_grammar.specs.declared.shape.Shape.TheVariants as is
+use Rattle.ir_grammar.specs.declared.grammar.Terminal.TheVariants as a
+use Rattle.ir_grammar.specs.declared.grammar.Keep.TheVariants as keep
+use Rattle.ir_grammar.specs.declared.grammar.Name.TheVariants as the
+use Rattle.ir_grammar.specs.declared.grammar.Item.TheVariants as item
+use Rattle.ir_grammar.specs.Items.{Production, keeps, drops, keeps_as, kept, each_then, open_paren, close_paren, extended, attachments}
+use Rattle.ir_grammar.specs.Constants.{operand_of}
 
--- the scalar that a call with a name returns
-abbrev pub returned_scalar : Shape → Turn
-returned_scalar (is.Scalar ty) = Takes (keep.As (is.Returned ty)) []
-returned_scalar _ = Refuses
+-- ( types )
+abbrev pub whole_type : List Production
+whole_type = keeps (a.Only is.OpenParen) (item.One the.Types ∷ []) ∷ []
 
--- [ ( types ) ], with ... behind them or not: the whole type of a call
-abbrev pub whole_type : Shape → Turn
-whole_type is.OpenParen = Takes keep.Keeps (sym.FirstType ∷ [])
-whole_type _ = Leaves
+-- ), or ... ), or T and more of them
+abbrev pub types : List Production
+types =
+    keeps (a.Only is.CloseParen) []
+    ∷ keeps (a.Only is.Dots) (close_paren ∷ [])
+    ∷ keeps a.AnyScalar (item.One the.MoreTypes ∷ [])
+    ∷ []
 
--- ) or ... ) or a scalar, and more of them
-abbrev pub first_type : Shape → Turn
-first_type is.CloseParen = Takes keep.Keeps []
-first_type is.Dots = Takes keep.Keeps (sym.CloseParen ∷ [])
-first_type (is.Scalar _) = Takes keep.Keeps (sym.MoreTypes ∷ [])
-first_type _ = Refuses
+-- ), or a comma and more types
+abbrev pub more_types : List Production
+more_types =
+    keeps (a.Only is.CloseParen) []
+    ∷ drops (a.Only is.Comma) (item.One the.NextType ∷ [])
+    ∷ []
 
--- ) or a comma, and a scalar or ... )
-abbrev pub more_types : Shape → Turn
-more_types is.CloseParen = Takes keep.Keeps []
-more_types is.Comma = Takes keep.Drops (sym.NextType ∷ [])
-more_types _ = Refuses
+-- ... ), or T and more of them
+abbrev pub next_type : List Production
+next_type =
+    keeps (a.Only is.Dots) (close_paren ∷ [])
+    ∷ keeps a.AnyScalar (item.One the.MoreTypes ∷ [])
+    ∷ []
 
--- a scalar, and more of them, or ... )
-abbrev pub next_type : Shape → Turn
-next_type is.Dots = Takes keep.Keeps (sym.CloseParen ∷ [])
-next_type (is.Scalar _) = Takes keep.Keeps (sym.MoreTypes ∷ [])
-next_type _ = Refuses
+-- T attributes a
+abbrev pub argument : List Production
+argument = keeps a.AnyScalar (extended (item.One the.Operand ∷ [])) ∷ []
 
--- ) or an argument, and more of them
-abbrev pub first_argument : Shape → Turn
-first_argument is.CloseParen = Takes keep.Keeps []
-first_argument (is.Scalar _) = Takes keep.Keeps (sym.ExtAttributes ∷ sym.Operand ∷ sym.MoreArguments ∷ [])
-first_argument _ = Refuses
+-- ( arguments ) attributes attachments
+abbrev pub arguments : List Item
+arguments = open_paren ∷ item.Separated the.Argument ∷ close_paren ∷ item.Many the.CallAttribute ∷ attachments
 
--- ) or a comma, an argument, and more of them
-abbrev pub more_arguments : Shape → Turn
-more_arguments is.CloseParen = Takes keep.Keeps []
-more_arguments is.Comma = Takes keep.Drops (sym.Argument ∷ [])
-more_arguments _ = Refuses
+-- T [( types )] f ( arguments ) attributes attachments
+abbrev pub returned : List Item → Production
+returned more = keeps_as keep.AsReturned a.AnyScalar (item.May the.WholeType ∷ item.One the.Operand ∷ (arguments ++ more))
 
--- a scalar, attributes and an operand, and more of them
-abbrev pub argument : Shape → Turn
-argument (is.Scalar _) = Takes keep.Keeps (sym.ExtAttributes ∷ sym.Operand ∷ sym.MoreArguments ∷ [])
-argument _ = Refuses
+-- [tail] call attributes T [( types )] f ( arguments ) attributes attachments
+abbrev pub call_behind : List Item
+call_behind = extended (item.Token a.AnyScalar keep.AsReturned ∷ item.May the.WholeType ∷ item.One the.Operand ∷ arguments)
 
--- what a call without a name returns, and the rest of it: one of void to a name of debug information is dropped
-abbrev pub call_return : Shape → Turn
-call_return (is.Scalar ty) = Takes (keep.As (is.Returned ty)) (sym.WholeType ∷ sym.Operand ∷ sym.OpenParen ∷ sym.FirstArgument ∷ sym.CallAttributes ∷ sym.Trailers ∷ sym.Insts ∷ [])
-call_return is.Void = Takes keep.Keeps (sym.WholeType ∷ sym.VoidCallee ∷ [])
-call_return _ = Refuses
+abbrev pub named_call : List Production
+named_call =
+    keeps (a.Only is.Call) call_behind
+    ∷ drops (a.Only is.Tail) (kept (a.Only is.Call) ∷ call_behind)
+    ∷ []
 
--- the callee of a call of void, and the rest
-abbrev pub void_callee : Shape → Turn
-void_callee (is.At at.Debug) = Takes keep.Keeps (sym.Group ∷ sym.CallAttributes ∷ sym.Trailers ∷ sym.Insts ∷ [])
-void_callee shape = followed_by sym.VoidArguments (operand shape)
+-- behind the attributes of a call without a name: what it returns, the rest of it, and the lines behind it
+abbrev pub called : Bool → List Production
+called phis =
+    returned (item.One (the.Lines false) ∷ [])
+    ∷ keeps (a.Only is.Void) (item.May the.WholeType ∷ item.One (the.VoidCallee phis) ∷ [])
+    ∷ []
 
--- ( arguments ) and attributes of a call of void
-abbrev pub void_arguments : Shape → Turn
-void_arguments is.OpenParen = Takes keep.Drops (sym.FirstArgument ∷ sym.CallAttributes ∷ sym.Trailers ∷ sym.Insts ∷ [])
-void_arguments _ = Refuses
-
--- the same where phis may follow a dropped call
-abbrev pub phi_call_return : Shape → Turn
-phi_call_return (is.Scalar ty) = Takes (keep.As (is.Returned ty)) (sym.WholeType ∷ sym.Operand ∷ sym.OpenParen ∷ sym.FirstArgument ∷ sym.CallAttributes ∷ sym.Trailers ∷ sym.Insts ∷ [])
-phi_call_return is.Void = Takes keep.Keeps (sym.WholeType ∷ sym.PhiVoidCallee ∷ [])
-phi_call_return _ = Refuses
-
--- the same where phis may follow a dropped call
-abbrev pub phi_void_callee : Shape → Turn
-phi_void_callee (is.At at.Debug) = Takes keep.Keeps (sym.Group ∷ sym.CallAttributes ∷ sym.Trailers ∷ sym.Phis ∷ [])
-phi_void_callee shape = followed_by sym.VoidArguments (operand shape)
+-- the callee of a call of void: to a name of debug information any group is given, and phis may still come
+abbrev pub void_callee : Bool → List Production
+void_callee phis =
+    keeps (a.Only (is.At at.Debug)) (item.One the.Group ∷ item.Many the.CallAttribute ∷ item.Many the.CommaAttachment ∷ item.One (the.Lines phis) ∷ [])
+    ∷ each_then (arguments ++ (item.One (the.Lines false) ∷ [])) (operand_of a.CalledAt)

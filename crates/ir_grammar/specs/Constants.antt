@@ -1,75 +1,67 @@
--- Constants: what may stand there, token by token.
-use Rattle.std.specs.Prelude.{Bool, [], ◌∷◌, if◌then◌else◌}
-use Rattle.ir_grammar.specs.declared.shape.Shape.{Shape}
-use Rattle.ir_grammar.specs.declared.shape.Shape.TheVariants as is
+-- Constants and operands.
+-- LLVM Language Reference Manual: "Simple Constants", "Complex Constants", "Constant Expressions".
+use Rattle.std.specs.Prelude.{ℕ, suc, nat_lt, List, [], ◌∷◌, if◌then◌else◌}
+use Rattle.ir_grammar.specs.declared.grammar.Terminal.{Terminal}
+use Rattle.ir_grammar.specs.declared.grammar.Item.{Item}
 use Rattle.ir_grammar.specs.declared.shape.Value.TheVariants as val
-use Rattle.ir_grammar.specs.declared.symbol.Keep.TheVariants as keep
-use Rattle.ir_grammar.specs.declared.symbol.Symbol.TheVariants as sym
-use Rattle.ir_grammar.specs.Turns.{Turn, Takes, Refuses, followed_by}
-use Rattle.ir_grammar.specs.Types.{any_type}
+use Rattle.ir_grammar.specs.declared.shape.Flag.TheVariants as is_a
+use Rattle.ir_grammar.specs.declared.shape.Shape.TheVariants as is
+use Rattle.ir_grammar.specs.declared.grammar.Terminal.TheVariants as a
+use Rattle.ir_grammar.specs.declared.grammar.Keep.TheVariants as keep
+use Rattle.ir_grammar.specs.declared.grammar.Name.TheVariants as the
+use Rattle.ir_grammar.specs.declared.grammar.Item.TheVariants as item
+use Rattle.ir_grammar.specs.Items.{Production, keeps, drops, keeps_as, kept, each_then, comma, open_paren, close_paren, ptr, flag, dropped_flag, flags}
+use Rattle.ir_grammar.specs.Types.{type}
 
--- an integer, true, false, null, undef, poison, zeroinitializer, @name, an address, [ T C, T C ], { T C, T C } or c"text"
-abbrev pub constant : Shape → Turn
-constant (is.Int _) = Takes keep.Keeps []
-constant (is.Value _) = Takes keep.Keeps []
-constant (is.At _) = Takes keep.Keeps []
-constant is.CStr = Takes keep.Keeps []
-constant is.Gep = Takes (keep.As is.Address) (sym.AnyGepFlag ∷ sym.OpenParen ∷ sym.AnyType ∷ sym.Comma ∷ sym.Pointer ∷ sym.AddressBase ∷ sym.MoreIndices ∷ [])
-constant is.OpenSquare = Takes keep.Keeps (sym.FirstElement ∷ [])
-constant is.OpenBrace = Takes keep.Keeps (sym.FirstPart ∷ [])
-constant _ = Refuses
+-- [inbounds] [nusw] [nuw]
+abbrev pub address_flags : Item
+address_flags = flags (flag is_a.Inbounds) (dropped_flag is_a.Nusw) (dropped_flag is_a.Nuw)
 
--- @name or an address again; at most 64 of them are open at once
-abbrev pub address_base : Shape → Bool → Turn
-address_base (is.At _) deep = Takes keep.Keeps []
-address_base is.Gep deep = if deep then Refuses else (Takes (keep.As is.Address) (sym.AnyGepFlag ∷ sym.OpenParen ∷ sym.AnyType ∷ sym.Comma ∷ sym.Pointer ∷ sym.AddressBase ∷ sym.MoreIndices ∷ []))
-address_base _ deep = Refuses
+-- getelementptr flags ( T , ptr base , iN n ), where so many are open with it
+abbrev pub address : ℕ → Production
+address count =
+    keeps_as keep.AsAddress (a.Only is.Gep)
+    (address_flags ∷ open_paren ∷ item.One the.Type ∷ comma ∷ ptr ∷ item.One (the.Base count) ∷ item.Many the.ConstantIndex ∷ close_paren ∷ [])
 
--- ) or a comma, an integer type, a number, and more of them
-abbrev pub more_indices : Shape → Turn
-more_indices is.CloseParen = Takes keep.Keeps []
-more_indices is.Comma = Takes keep.Drops (sym.Integer ∷ sym.Number ∷ sym.MoreIndices ∷ [])
-more_indices _ = Refuses
+-- @name, or an address again: at most 64 of them are open at once
+abbrev pub base : ℕ → List Production
+base count = keeps a.AnyAt [] ∷ (if nat_lt count 64 then address (suc count) ∷ [] else [])
 
--- a constant that is a number: an integer, true, false or zeroinitializer
-abbrev pub number : Shape → Turn
-number (is.Int _) = Takes keep.Keeps []
-number (is.Value val.True) = Takes keep.Keeps []
-number (is.Value val.False) = Takes keep.Keeps []
-number (is.Value val.Zero) = Takes keep.Keeps []
-number _ = Refuses
+-- , iN n
+abbrev pub constant_index : List Production
+constant_index = drops (a.Only is.Comma) (kept a.IntegerScalar ∷ item.One the.Number ∷ []) ∷ []
 
--- ] or a type, a constant, and more of them
-abbrev pub first_element : Shape → Turn
-first_element is.CloseSquare = Takes keep.Keeps []
-first_element shape = followed_by sym.ElementValue (any_type shape)
+-- an integer, true, false or zeroinitializer
+abbrev pub number : List Production
+number =
+    keeps a.AnyInt []
+    ∷ keeps (a.Only (is.Value val.True)) []
+    ∷ keeps (a.Only (is.Value val.False)) []
+    ∷ keeps (a.Only (is.Value val.Zero)) []
+    ∷ []
 
--- a constant, and more elements
-abbrev pub element_value : Shape → Turn
-element_value shape = followed_by sym.MoreElements (constant shape)
+-- a number, a word for a value, @name of these, c"text", an address, [ T C, T C ], { T C, T C }
+abbrev pub constant_of : Terminal → List Production
+constant_of names =
+    keeps a.AnyInt []
+    ∷ keeps a.AnyValue []
+    ∷ keeps names []
+    ∷ keeps (a.Only is.CStr) []
+    ∷ address 1
+    ∷ keeps (a.Only is.OpenSquare) (item.Separated the.Element ∷ kept (a.Only is.CloseSquare) ∷ [])
+    ∷ keeps (a.Only is.OpenBrace) (item.Separated the.Element ∷ kept (a.Only is.CloseBrace) ∷ [])
+    ∷ []
 
--- ] or a comma, a type, a constant, and more of them
-abbrev pub more_elements : Shape → Turn
-more_elements is.CloseSquare = Takes keep.Keeps []
-more_elements is.Comma = Takes keep.Drops (sym.AnyType ∷ sym.ElementValue ∷ [])
-more_elements _ = Refuses
+abbrev pub constant : List Production
+constant = constant_of a.AnyAt
 
--- } or a type, a constant, and more of them
-abbrev pub first_part : Shape → Turn
-first_part is.CloseBrace = Takes keep.Keeps []
-first_part shape = followed_by sym.PartValue (any_type shape)
+-- T C
+abbrev pub element : List Production
+element = each_then (item.One the.Constant ∷ []) type
 
--- a constant, and more parts
-abbrev pub part_value : Shape → Turn
-part_value shape = followed_by sym.MoreParts (constant shape)
+-- %name, or a constant
+abbrev pub operand_of : Terminal → List Production
+operand_of names = keeps (a.Only is.Local) [] ∷ constant_of names
 
--- } or a comma, a type, a constant, and more of them
-abbrev pub more_parts : Shape → Turn
-more_parts is.CloseBrace = Takes keep.Keeps []
-more_parts is.Comma = Takes keep.Drops (sym.AnyType ∷ sym.PartValue ∷ [])
-more_parts _ = Refuses
-
--- %name or a constant
-abbrev pub operand : Shape → Turn
-operand is.Local = Takes keep.Keeps []
-operand shape = constant shape
+abbrev pub operand : List Production
+operand = operand_of a.AnyAt

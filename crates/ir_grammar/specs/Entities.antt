@@ -1,154 +1,120 @@
--- The entities of a module: what may stand there, token by token.
-use Rattle.std.specs.Prelude.{[], ◌∷◌}
-use Rattle.ir_grammar.specs.declared.shape.Shape.{Shape}
-use Rattle.ir_grammar.specs.declared.shape.Shape.TheVariants as is
+-- Top-level entities of a module.
+-- LLVM Language Reference Manual: "Source Filename", "Target Triple", "Data Layout", "Structure Type", "Global Variables",
+-- "Functions", "Attribute Groups", "Metadata".
+use Rattle.std.specs.Prelude.{List, [], ◌∷◌, ◌++◌}
+use Rattle.ir_grammar.specs.declared.grammar.Item.{Item}
+use Rattle.ir_syntax.specs.declared.item.Linkage.TheVariants as linkage
 use Rattle.ir_grammar.specs.declared.shape.AtName.TheVariants as at
 use Rattle.ir_grammar.specs.declared.shape.Free.TheVariants as free
-use Rattle.ir_grammar.specs.declared.symbol.Keep.TheVariants as keep
-use Rattle.ir_grammar.specs.declared.symbol.Symbol.TheVariants as sym
-use Rattle.ir_syntax.specs.declared.item.Linkage.TheVariants as linkage
-use Rattle.ir_grammar.specs.Turns.{Turn, Takes, Leaves, Refuses}
-use Rattle.ir_grammar.specs.Types.{any_type}
+use Rattle.ir_grammar.specs.declared.shape.Shape.TheVariants as is
+use Rattle.ir_grammar.specs.declared.grammar.Terminal.TheVariants as a
+use Rattle.ir_grammar.specs.declared.grammar.Keep.TheVariants as keep
+use Rattle.ir_grammar.specs.declared.grammar.Name.TheVariants as the
+use Rattle.ir_grammar.specs.declared.grammar.Item.TheVariants as item
+use Rattle.ir_grammar.specs.Items.{Production, keeps, drops, kept, dropped, each_then, equals, open_paren, close_paren, power, extended}
+use Rattle.ir_grammar.specs.Attributes.{attribute}
 
--- a file name, a target, a type, a variable, a declaration, a definition, a group of attributes, or metadata
-abbrev pub entity : Shape → Turn
-entity is.SourceFilename = Takes keep.Drops (sym.Equals ∷ sym.DroppedString ∷ [])
-entity is.Target = Takes keep.Drops (sym.TargetPart ∷ [])
-entity is.Local = Takes keep.Keeps (sym.Equals ∷ sym.TypeWord ∷ sym.TypeBody ∷ [])
-entity (is.At at.Plain) = Takes keep.Keeps (sym.Equals ∷ sym.Linked ∷ [])
-entity is.Declare = Takes keep.Keeps (sym.Attachments ∷ sym.MayBeExternal ∷ sym.ExtAttributes ∷ sym.Returns ∷ sym.DeclaredName ∷ [])
-entity is.Define = Takes keep.Keeps (sym.MayBeLinkage ∷ sym.ExtAttributes ∷ sym.Returns ∷ sym.DefinedName ∷ sym.OpenParen ∷ sym.FirstParam ∷ sym.Attributes ∷ sym.Attachments ∷ sym.Body ∷ [])
-entity is.AttributesWord = Takes keep.Drops (sym.AnyHash ∷ sym.Equals ∷ sym.Group ∷ [])
-entity is.Bang = Takes keep.Drops (sym.Equals ∷ sym.MetaValue ∷ [])
-entity is.Meta = Takes keep.Drops (sym.Equals ∷ sym.MetaValue ∷ [])
-entity _ = Refuses
+abbrev pub entity : List Production
+entity =
+    -- source_filename = string
+    drops (a.Only is.SourceFilename) (equals ∷ dropped is.Str ∷ [])
+    -- target datalayout = string, or target triple = string
+    ∷ drops (a.Only is.Target) (item.One the.TargetPart ∷ [])
+    -- %name = type T, or %name = type opaque
+    ∷ keeps (a.Only is.Local) (equals ∷ dropped is.TypeWord ∷ item.One the.TypeBody ∷ [])
+    -- @name = [linkage] attributes global T C, or constant T C
+    ∷ keeps (a.Only (is.At at.Plain)) (equals ∷ item.One the.Variable ∷ [])
+    -- declare attachments [external] attributes R @name ( parameters ) attributes
+    ∷ keeps (a.Only is.Declare) (item.Many the.Attachment ∷ item.May the.External ∷ extended (kept a.VoidOrScalar ∷ item.One the.Declared ∷ []))
+    -- define [linkage] attributes R @name ( parameters ) attributes attachments body
+    ∷ keeps (a.Only is.Define)
+    (item.May the.LinkageWord ∷ extended
+    (kept a.VoidOrScalar ∷ kept (a.Only (is.At at.Plain)) ∷ open_paren ∷ item.Separated the.Param ∷ close_paren ∷ item.Many the.Attribute ∷ item.Many the.Attachment ∷ item.One the.Body ∷ []))
+    -- attributes #name = group
+    ∷ drops (a.Only is.AttributesWord) (item.Token a.AnyHash keep.Drops ∷ equals ∷ item.One the.Group ∷ [])
+    -- !name = [distinct] node
+    ∷ drops a.AnyMeta (equals ∷ item.One the.MetaValue ∷ [])
+    ∷ []
 
 -- datalayout = string, or triple = string
-abbrev pub target_part : Shape → Turn
-target_part (is.Free free.Datalayout) = Takes keep.Keeps (sym.Equals ∷ sym.KeptString ∷ [])
-target_part (is.Free free.Triple) = Takes keep.Keeps (sym.Equals ∷ sym.KeptString ∷ [])
-target_part _ = Refuses
+abbrev pub target_part : List Production
+target_part =
+    keeps (a.Only (is.Free free.Datalayout)) (equals ∷ kept (a.Only is.Str) ∷ [])
+    ∷ keeps (a.Only (is.Free free.Triple)) (equals ∷ kept (a.Only is.Str) ∷ [])
+    ∷ []
 
--- opaque, or a type
-abbrev pub type_body : Shape → Turn
-type_body is.Opaque = Takes keep.Keeps []
-type_body shape = any_type shape
+-- T C, and alignments and attachments
+abbrev pub initialized : List Item
+initialized = item.One the.Type ∷ item.One the.Constant ∷ item.Many the.VariablePart ∷ []
 
--- what follows the name of a variable: one that is external has no constant
-abbrev pub linked : Shape → Turn
-linked (is.Linkage linkage.External) = Takes keep.Keeps (sym.Attributes ∷ sym.GlobalOrConstant ∷ sym.AnyType ∷ sym.VarTrailers ∷ [])
-linked (is.Linkage _) = Takes keep.Keeps (sym.Attributes ∷ sym.GlobalOrConstant ∷ sym.AnyType ∷ sym.Constant ∷ sym.VarTrailers ∷ [])
-linked is.Global = Takes keep.Keeps (sym.AnyType ∷ sym.Constant ∷ sym.VarTrailers ∷ [])
-linked is.ConstantWord = Takes keep.Keeps (sym.AnyType ∷ sym.Constant ∷ sym.VarTrailers ∷ [])
-linked (is.Free _) = Takes keep.Drops (sym.MayBeGroup ∷ sym.Attributes ∷ sym.GlobalOrConstant ∷ sym.AnyType ∷ sym.Constant ∷ sym.VarTrailers ∷ [])
-linked is.Str = Takes keep.Drops (sym.MayEqualString ∷ sym.Attributes ∷ sym.GlobalOrConstant ∷ sym.AnyType ∷ sym.Constant ∷ sym.VarTrailers ∷ [])
-linked is.Hash = Takes keep.Drops (sym.Attributes ∷ sym.GlobalOrConstant ∷ sym.AnyType ∷ sym.Constant ∷ sym.VarTrailers ∷ [])
-linked is.Record = Takes keep.Drops (sym.Attributes ∷ sym.GlobalOrConstant ∷ sym.AnyType ∷ sym.Constant ∷ sym.VarTrailers ∷ [])
-linked is.Align = Takes keep.Drops (sym.AttributeAlign ∷ sym.Attributes ∷ sym.GlobalOrConstant ∷ sym.AnyType ∷ sym.Constant ∷ sym.VarTrailers ∷ [])
-linked _ = Refuses
+abbrev pub attributed : List Item
+attributed = item.Many the.Attribute ∷ kept a.GlobalOrConstant ∷ initialized
 
--- global or constant
-abbrev pub global_or_constant : Shape → Turn
-global_or_constant is.Global = Takes keep.Keeps []
-global_or_constant is.ConstantWord = Takes keep.Keeps []
-global_or_constant _ = Refuses
+-- behind the name of a variable, what isn't an attribute: one that is external has no constant
+abbrev pub own_variable : List Production
+own_variable =
+    keeps (a.Only (is.Linkage linkage.External)) (item.Many the.Attribute ∷ kept a.GlobalOrConstant ∷ item.One the.Type ∷ item.Many the.VariablePart ∷ [])
+    ∷ keeps (a.Only (is.Linkage linkage.Internal)) attributed
+    ∷ keeps (a.Only (is.Linkage linkage.Private)) attributed
+    ∷ keeps a.GlobalOrConstant initialized
+    ∷ []
 
--- any number of align n and attachments, each behind a comma
-abbrev pub var_trailers : Shape → Turn
-var_trailers is.Comma = Takes keep.Drops (sym.VarTrailer ∷ [])
-var_trailers _ = Leaves
+abbrev pub variable : List Production
+variable = own_variable ++ each_then attributed attribute
 
--- align n or an attachment, and more of them
-abbrev pub var_trailer : Shape → Turn
-var_trailer is.Align = Takes keep.Drops (sym.Power ∷ sym.VarTrailers ∷ [])
-var_trailer is.Bang = Takes keep.Drops (sym.SecondMeta ∷ sym.VarTrailers ∷ [])
-var_trailer is.Meta = Takes keep.Drops (sym.SecondMeta ∷ sym.VarTrailers ∷ [])
-var_trailer _ = Refuses
+-- , align n, or an attachment
+abbrev pub variable_part : List Production
+variable_part = drops (a.Only is.Comma) (item.One the.VariableOption ∷ []) ∷ []
 
--- [external]
-abbrev pub may_be_external : Shape → Turn
-may_be_external (is.Linkage linkage.External) = Takes keep.Drops []
-may_be_external _ = Leaves
+-- align n, or !name node
+abbrev pub variable_option : List Production
+variable_option =
+    drops (a.Only is.Align) (power ∷ [])
+    ∷ drops a.AnyMeta (item.One the.AttachedNode ∷ [])
+    ∷ []
 
--- [linkage]
-abbrev pub may_be_linkage : Shape → Turn
-may_be_linkage (is.Linkage _) = Takes keep.Keeps []
-may_be_linkage _ = Leaves
+abbrev pub external : List Production
+external = drops (a.Only (is.Linkage linkage.External)) [] ∷ []
 
--- void or a scalar
-abbrev pub returns : Shape → Turn
-returns is.Void = Takes keep.Keeps []
-returns (is.Scalar _) = Takes keep.Keeps []
-returns _ = Refuses
+abbrev pub linkage_word : List Production
+linkage_word = keeps a.AnyLinkage [] ∷ []
 
--- @name and parameters: those of a name of debug information are any group, and it is dropped
-abbrev pub declared_name : Shape → Turn
-declared_name (is.At at.Plain) = Takes keep.Keeps (sym.OpenParen ∷ sym.FirstDeclared ∷ sym.Attributes ∷ [])
-declared_name (is.At at.Memory) = Takes keep.Keeps (sym.OpenParen ∷ sym.FirstDeclared ∷ sym.Attributes ∷ [])
-declared_name (is.At at.Debug) = Takes keep.Keeps (sym.Group ∷ sym.Attributes ∷ [])
-declared_name _ = Refuses
+-- @name ( parameters ) attributes; a name of debug information has any group
+abbrev pub declared : List Production
+declared =
+    keeps a.DeclaredAt (open_paren ∷ item.One the.DeclaredParams ∷ item.Many the.Attribute ∷ [])
+    ∷ keeps (a.Only (is.At at.Debug)) (item.One the.Group ∷ item.Many the.Attribute ∷ [])
+    ∷ []
 
--- ) or ... ) or a parameter, and more of them
-abbrev pub first_declared : Shape → Turn
-first_declared is.CloseParen = Takes keep.Keeps []
-first_declared is.Dots = Takes keep.Keeps (sym.CloseParen ∷ [])
-first_declared (is.Scalar _) = Takes keep.Keeps (sym.ExtAttributes ∷ sym.MayBeName ∷ sym.MoreDeclared ∷ [])
-first_declared _ = Refuses
+-- T attributes [%name], and more parameters of a declaration
+abbrev pub declared_param : Production
+declared_param = keeps a.AnyScalar (extended (item.May the.ParamName ∷ item.One the.MoreDeclared ∷ []))
 
--- ) or a comma, and a parameter or ... )
-abbrev pub more_declared : Shape → Turn
-more_declared is.CloseParen = Takes keep.Keeps []
-more_declared is.Comma = Takes keep.Drops (sym.NextDeclared ∷ [])
-more_declared _ = Refuses
+-- ), or ... ), or a parameter and more of them
+abbrev pub declared_params : List Production
+declared_params =
+    keeps (a.Only is.CloseParen) []
+    ∷ keeps (a.Only is.Dots) (close_paren ∷ [])
+    ∷ declared_param
+    ∷ []
 
--- a parameter, and more of them, or ... )
-abbrev pub next_declared : Shape → Turn
-next_declared is.Dots = Takes keep.Keeps (sym.CloseParen ∷ [])
-next_declared (is.Scalar _) = Takes keep.Keeps (sym.ExtAttributes ∷ sym.MayBeName ∷ sym.MoreDeclared ∷ [])
-next_declared _ = Refuses
+-- ), or a comma and more parameters
+abbrev pub more_declared : List Production
+more_declared =
+    keeps (a.Only is.CloseParen) []
+    ∷ drops (a.Only is.Comma) (item.One the.NextDeclared ∷ [])
+    ∷ []
 
--- @name
-abbrev pub defined_name : Shape → Turn
-defined_name (is.At at.Plain) = Takes keep.Keeps []
-defined_name _ = Refuses
+-- ... ), or a parameter and more of them
+abbrev pub next_declared : List Production
+next_declared =
+    keeps (a.Only is.Dots) (close_paren ∷ [])
+    ∷ declared_param
+    ∷ []
 
--- ) or a parameter, and more of them
-abbrev pub first_param : Shape → Turn
-first_param is.CloseParen = Takes keep.Keeps []
-first_param (is.Scalar _) = Takes keep.Keeps (sym.ExtAttributes ∷ sym.MayBeName ∷ sym.MoreParams ∷ [])
-first_param _ = Refuses
+-- T attributes [%name]
+abbrev pub param : List Production
+param = keeps a.AnyScalar (extended (item.May the.ParamName ∷ [])) ∷ []
 
--- ) or a comma, a parameter, and more of them
-abbrev pub more_params : Shape → Turn
-more_params is.CloseParen = Takes keep.Keeps []
-more_params is.Comma = Takes keep.Drops (sym.Param ∷ [])
-more_params _ = Refuses
-
--- a scalar, attributes, and a name or none, and more of them
-abbrev pub param : Shape → Turn
-param (is.Scalar _) = Takes keep.Keeps (sym.ExtAttributes ∷ sym.MayBeName ∷ sym.MoreParams ∷ [])
-param _ = Refuses
-
--- [%name]
-abbrev pub may_be_name : Shape → Turn
-may_be_name is.Local = Takes keep.Keeps []
-may_be_name _ = Leaves
-
--- #name
-abbrev pub any_hash : Shape → Turn
-any_hash is.Hash = Takes keep.Drops []
-any_hash is.Record = Takes keep.Drops []
-any_hash _ = Refuses
-
--- [distinct] metadata word, with or without a group
-abbrev pub meta_value : Shape → Turn
-meta_value is.Distinct = Takes keep.Drops (sym.MetaNode ∷ [])
-meta_value is.Bang = Takes keep.Drops (sym.MayBeAnyGroup ∷ [])
-meta_value is.Meta = Takes keep.Drops (sym.MayBeAnyGroup ∷ [])
-meta_value _ = Refuses
-
--- a metadata word, with or without a group
-abbrev pub meta_node : Shape → Turn
-meta_node is.Bang = Takes keep.Drops (sym.MayBeAnyGroup ∷ [])
-meta_node is.Meta = Takes keep.Drops (sym.MayBeAnyGroup ∷ [])
-meta_node _ = Refuses
+abbrev pub param_name : List Production
+param_name = keeps (a.Only is.Local) [] ∷ []

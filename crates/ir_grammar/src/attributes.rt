@@ -1,263 +1,217 @@
-//! Attributes, attachments and groups, which are dropped: what may stand there, token by token.
+//! Attributes, groups and metadata, which are dropped; but one extension of a value is kept.
 ghost use Rattle.std.specs.Prelude.{◌≡◌};
-ghost use Rattle.ir_grammar.specs.Turns.{step_of};
-ghost use Rattle.ir_grammar.specs.Attributes.{may_be_group, in_parens, in_braces, group, may_be_any_group, braces, may_equal_string, dropped_string, attribute_align, dropped_power, dropped_close_paren, attributes, ext_attributes, call_attributes, second_meta, attachments, trailers, trailer, align_trailers, align_trailer, power};
+ghost use Rattle.ir_grammar.specs.Attributes.{parenthesized, parentheses_part, braced, braces_part, group, attribute, call_attribute, equal_string, attribute_align, extension, attachment, attached_node, comma_attachment, align_part, align_or_attachment, meta_value, meta_node};
+ghost use Rattle.ir_grammar.specs.Mirrors.Steps.{by_rule};
+ghost use Rattle.ir_grammar.specs.Mirrors.Walk.{first_of};
 
+use crate::grammar::{Item, Keep, Name, Terminal};
+use crate::items::{ATTACHMENTS, POWER};
+use crate::rules::Rule;
 use crate::shape::{Digits, Shape};
-use crate::symbol::{Keep, Step, Symbol};
 
-/// `[ ( .. ) ]`.
-pub fn may_be_group(shape: Shape) -> Step
-    ensures { step_of result ≡ may_be_group shape }
+/// `( .. )`.
+pub fn parenthesized(shape: Shape) -> Option<Rule>
+    ensures { by_rule result ≡ first_of parenthesized shape }
 {
     match shape {
-        Shape::OpenParen => Step::Takes(Keep::Drops, &[Symbol::InParens]),
-        _ => Step::Leaves,
+        Shape::OpenParen => Some(Rule::drops(&[
+            Item::Many(Name::ParenthesesPart),
+            Item::Token(Terminal::Only(Shape::CloseParen), Keep::Drops),
+        ])),
+        _ => None,
     }
 }
 
-/// All up to the closing parenthesis, nested ones counted.
-pub fn in_parens(shape: Shape) -> Step
-    ensures { step_of result ≡ in_parens shape }
+/// Between parentheses: `( .. )` again, or any other token.
+pub fn parentheses_part(shape: Shape) -> Option<Rule>
+    ensures { by_rule result ≡ first_of parentheses_part shape }
 {
     match shape {
-        Shape::End => Step::Refuses,
-        Shape::CloseParen => Step::Takes(Keep::Drops, &[]),
-        Shape::OpenParen => Step::Takes(Keep::Drops, &[Symbol::InParens, Symbol::InParens]),
-        _ => Step::Takes(Keep::Drops, &[Symbol::InParens]),
-    }
-}
-
-/// All up to the closing brace, nested ones counted.
-pub fn in_braces(shape: Shape) -> Step
-    ensures { step_of result ≡ in_braces shape }
-{
-    match shape {
-        Shape::End => Step::Refuses,
-        Shape::CloseBrace => Step::Takes(Keep::Drops, &[]),
-        Shape::OpenBrace => Step::Takes(Keep::Drops, &[Symbol::InBraces, Symbol::InBraces]),
-        _ => Step::Takes(Keep::Drops, &[Symbol::InBraces]),
-    }
-}
-
-/// `( .. )` or `{ .. }`.
-pub fn group(shape: Shape) -> Step
-    ensures { step_of result ≡ group shape }
-{
-    match shape {
-        Shape::OpenParen => Step::Takes(Keep::Drops, &[Symbol::InParens]),
-        Shape::OpenBrace => Step::Takes(Keep::Drops, &[Symbol::InBraces]),
-        _ => Step::Refuses,
-    }
-}
-
-/// `( .. )`, `{ .. }` or nothing.
-pub fn may_be_any_group(shape: Shape) -> Step
-    ensures { step_of result ≡ may_be_any_group shape }
-{
-    match shape {
-        Shape::OpenParen => Step::Takes(Keep::Drops, &[Symbol::InParens]),
-        Shape::OpenBrace => Step::Takes(Keep::Drops, &[Symbol::InBraces]),
-        _ => Step::Leaves,
+        Shape::OpenParen => Some(Rule::drops(&[
+            Item::Many(Name::ParenthesesPart),
+            Item::Token(Terminal::Only(Shape::CloseParen), Keep::Drops),
+        ])),
+        Shape::CloseParen => None,
+        _ => Some(Rule::drops(&[])),
     }
 }
 
 /// `{ .. }`.
-pub fn braces(shape: Shape) -> Step
-    ensures { step_of result ≡ braces shape }
+pub fn braced(shape: Shape) -> Option<Rule>
+    ensures { by_rule result ≡ first_of braced shape }
 {
     match shape {
-        Shape::OpenBrace => Step::Takes(Keep::Drops, &[Symbol::InBraces]),
-        _ => Step::Refuses,
+        Shape::OpenBrace => Some(Rule::drops(&[
+            Item::Many(Name::BracesPart),
+            Item::Token(Terminal::Only(Shape::CloseBrace), Keep::Drops),
+        ])),
+        _ => None,
     }
 }
 
-/// `[ = string ]`.
-pub fn may_equal_string(shape: Shape) -> Step
-    ensures { step_of result ≡ may_equal_string shape }
+/// Between braces: `{ .. }` again, or any other token.
+pub fn braces_part(shape: Shape) -> Option<Rule>
+    ensures { by_rule result ≡ first_of braces_part shape }
 {
     match shape {
-        Shape::Equals => Step::Takes(Keep::Drops, &[Symbol::DroppedString]),
-        _ => Step::Leaves,
+        Shape::OpenBrace => Some(Rule::drops(&[
+            Item::Many(Name::BracesPart),
+            Item::Token(Terminal::Only(Shape::CloseBrace), Keep::Drops),
+        ])),
+        Shape::CloseBrace => None,
+        _ => Some(Rule::drops(&[])),
     }
 }
 
-/// A string.
-pub fn dropped_string(shape: Shape) -> Step
-    ensures { step_of result ≡ dropped_string shape }
+/// `( .. )` or `{ .. }`.
+pub fn group(shape: Shape) -> Option<Rule>
+    ensures { by_rule result ≡ first_of group shape }
 {
     match shape {
-        Shape::Str => Step::Takes(Keep::Drops, &[]),
-        _ => Step::Refuses,
+        Shape::OpenParen => Some(Rule::drops(&[
+            Item::Many(Name::ParenthesesPart),
+            Item::Token(Terminal::Only(Shape::CloseParen), Keep::Drops),
+        ])),
+        Shape::OpenBrace => Some(Rule::drops(&[
+            Item::Many(Name::BracesPart),
+            Item::Token(Terminal::Only(Shape::CloseBrace), Keep::Drops),
+        ])),
+        _ => None,
     }
 }
 
-/// `n` or `( n )`, a power of two up to 2^32.
-pub fn attribute_align(shape: Shape) -> Step
-    ensures { step_of result ≡ attribute_align shape }
+/// `word [( .. )]`, `string [= string]`, `#name` or `align n`.
+pub fn attribute(shape: Shape) -> Option<Rule>
+    ensures { by_rule result ≡ first_of attribute shape }
 {
     match shape {
-        Shape::Int(Digits::Power) => Step::Takes(Keep::Drops, &[]),
-        Shape::OpenParen => Step::Takes(
-            Keep::Drops,
-            &[Symbol::DroppedPower, Symbol::DroppedCloseParen],
-        ),
-        _ => Step::Refuses,
+        Shape::Free(_) => Some(Rule::drops(&[Item::May(Name::Parenthesized)])),
+        Shape::Str => Some(Rule::drops(&[Item::May(Name::EqualString)])),
+        Shape::Hash | Shape::Record => Some(Rule::drops(&[])),
+        Shape::Align => Some(Rule::drops(&[Item::One(Name::AttributeAlign)])),
+        _ => None,
     }
 }
 
-/// A power of two up to 2^32.
-pub fn dropped_power(shape: Shape) -> Step
-    ensures { step_of result ≡ dropped_power shape }
+/// The same, but no debug record.
+pub fn call_attribute(shape: Shape) -> Option<Rule>
+    ensures { by_rule result ≡ first_of call_attribute shape }
 {
     match shape {
-        Shape::Int(Digits::Power) => Step::Takes(Keep::Drops, &[]),
-        _ => Step::Refuses,
+        Shape::Free(_) => Some(Rule::drops(&[Item::May(Name::Parenthesized)])),
+        Shape::Str => Some(Rule::drops(&[Item::May(Name::EqualString)])),
+        Shape::Hash => Some(Rule::drops(&[])),
+        Shape::Align => Some(Rule::drops(&[Item::One(Name::AttributeAlign)])),
+        _ => None,
     }
 }
 
-/// `)`.
-pub fn dropped_close_paren(shape: Shape) -> Step
-    ensures { step_of result ≡ dropped_close_paren shape }
+/// `= string`.
+pub fn equal_string(shape: Shape) -> Option<Rule>
+    ensures { by_rule result ≡ first_of equal_string shape }
 {
     match shape {
-        Shape::CloseParen => Step::Takes(Keep::Drops, &[]),
-        _ => Step::Refuses,
+        Shape::Equals => Some(Rule::drops(&[Item::Token(Terminal::Only(Shape::Str), Keep::Drops)])),
+        _ => None,
     }
 }
 
-/// Any number of attributes: a word that isn't reserved, with or without a group; a string, with or without `=` and a string; a hash; `align` and a number.
-pub fn attributes(shape: Shape) -> Step
-    ensures { step_of result ≡ attributes shape }
+/// `n` or `( n )`.
+pub fn attribute_align(shape: Shape) -> Option<Rule>
+    ensures { by_rule result ≡ first_of attribute_align shape }
 {
     match shape {
-        Shape::Free(_) => Step::Takes(Keep::Drops, &[Symbol::MayBeGroup, Symbol::Attributes]),
-        Shape::Str => Step::Takes(Keep::Drops, &[Symbol::MayEqualString, Symbol::Attributes]),
-        Shape::Hash => Step::Takes(Keep::Drops, &[Symbol::Attributes]),
-        Shape::Record => Step::Takes(Keep::Drops, &[Symbol::Attributes]),
-        Shape::Align => Step::Takes(Keep::Drops, &[Symbol::AttributeAlign, Symbol::Attributes]),
-        _ => Step::Leaves,
+        Shape::Int(Digits::Power) => Some(Rule::drops(&[])),
+        Shape::OpenParen => Some(Rule::drops(&[
+            Item::Token(Terminal::Only(Shape::Int(Digits::Power)), Keep::Drops),
+            Item::Token(Terminal::Only(Shape::CloseParen), Keep::Drops),
+        ])),
+        _ => None,
     }
 }
 
-/// Any number of attributes, among them at most one of `signext` and `zeroext`, which is kept.
-pub fn ext_attributes(shape: Shape) -> Step
-    ensures { step_of result ≡ ext_attributes shape }
+/// `signext` or `zeroext`.
+pub fn extension(shape: Shape) -> Option<Rule>
+    ensures { by_rule result ≡ first_of extension shape }
 {
     match shape {
-        Shape::Ext(_) => Step::Takes(Keep::Keeps, &[Symbol::Attributes]),
-        Shape::Free(_) => Step::Takes(Keep::Drops, &[Symbol::MayBeGroup, Symbol::ExtAttributes]),
-        Shape::Str => Step::Takes(
-            Keep::Drops,
-            &[Symbol::MayEqualString, Symbol::ExtAttributes],
-        ),
-        Shape::Hash => Step::Takes(Keep::Drops, &[Symbol::ExtAttributes]),
-        Shape::Record => Step::Takes(Keep::Drops, &[Symbol::ExtAttributes]),
-        Shape::Align => Step::Takes(
-            Keep::Drops,
-            &[Symbol::AttributeAlign, Symbol::ExtAttributes],
-        ),
-        _ => Step::Leaves,
+        Shape::Ext(_) => Some(Rule::keeps(&[])),
+        _ => None,
     }
 }
 
-/// The attributes of a call: a debug record behind them isn't one.
-pub fn call_attributes(shape: Shape, before_group: bool) -> Step
-    ensures { step_of result ≡ call_attributes shape before_group }
+/// `!name node`.
+pub fn attachment(shape: Shape) -> Option<Rule>
+    ensures { by_rule result ≡ first_of attachment shape }
 {
     match shape {
-        Shape::Free(_) => Step::Takes(Keep::Drops, &[Symbol::MayBeGroup, Symbol::CallAttributes]),
-        Shape::Str => Step::Takes(
-            Keep::Drops,
-            &[Symbol::MayEqualString, Symbol::CallAttributes],
-        ),
-        Shape::Hash => Step::Takes(Keep::Drops, &[Symbol::CallAttributes]),
-        Shape::Record => {
-            if before_group {
-                Step::Leaves
-            } else {
-                Step::Takes(Keep::Drops, &[Symbol::CallAttributes])
-            }
-        }
-        Shape::Align => Step::Takes(
-            Keep::Drops,
-            &[Symbol::AttributeAlign, Symbol::CallAttributes],
-        ),
-        _ => Step::Leaves,
+        Shape::Bang | Shape::Meta => Some(Rule::drops(&[Item::One(Name::AttachedNode)])),
+        _ => None,
     }
 }
 
-/// The second part of an attachment: `!` and a group in braces, or another metadata word, with or without a group in parentheses.
-pub fn second_meta(shape: Shape) -> Step
-    ensures { step_of result ≡ second_meta shape }
+/// `! { .. }` or `!name [( .. )]`.
+pub fn attached_node(shape: Shape) -> Option<Rule>
+    ensures { by_rule result ≡ first_of attached_node shape }
 {
     match shape {
-        Shape::Bang => Step::Takes(Keep::Drops, &[Symbol::Braces]),
-        Shape::Meta => Step::Takes(Keep::Drops, &[Symbol::MayBeGroup]),
-        _ => Step::Refuses,
+        Shape::Bang => Some(Rule::drops(&[Item::One(Name::Braced)])),
+        Shape::Meta => Some(Rule::drops(&[Item::May(Name::Parenthesized)])),
+        _ => None,
     }
 }
 
-/// Any number of attachments, without commas.
-pub fn attachments(shape: Shape) -> Step
-    ensures { step_of result ≡ attachments shape }
+/// `, !name node`.
+pub fn comma_attachment(shape: Shape) -> Option<Rule>
+    ensures { by_rule result ≡ first_of comma_attachment shape }
 {
     match shape {
-        Shape::Bang => Step::Takes(Keep::Drops, &[Symbol::SecondMeta, Symbol::Attachments]),
-        Shape::Meta => Step::Takes(Keep::Drops, &[Symbol::SecondMeta, Symbol::Attachments]),
-        _ => Step::Leaves,
+        Shape::Comma => Some(Rule::drops(&[Item::One(Name::Attachment)])),
+        _ => None,
     }
 }
 
-/// Any number of attachments, each behind a comma.
-pub fn trailers(shape: Shape) -> Step
-    ensures { step_of result ≡ trailers shape }
+/// `, align n attachments`, or attachments.
+pub fn align_part(shape: Shape) -> Option<Rule>
+    ensures { by_rule result ≡ first_of align_part shape }
 {
     match shape {
-        Shape::Comma => Step::Takes(Keep::Drops, &[Symbol::Trailer]),
-        _ => Step::Leaves,
+        Shape::Comma => Some(Rule::drops(&[Item::One(Name::AlignOrAttachment)])),
+        _ => None,
     }
 }
 
-/// An attachment, and more of them.
-pub fn trailer(shape: Shape) -> Step
-    ensures { step_of result ≡ trailer shape }
+/// `align n attachments` or `!name node attachments`.
+pub fn align_or_attachment(shape: Shape) -> Option<Rule>
+    ensures { by_rule result ≡ first_of align_or_attachment shape }
 {
     match shape {
-        Shape::Bang => Step::Takes(Keep::Drops, &[Symbol::SecondMeta, Symbol::Trailers]),
-        Shape::Meta => Step::Takes(Keep::Drops, &[Symbol::SecondMeta, Symbol::Trailers]),
-        _ => Step::Refuses,
+        Shape::Align => Some(Rule::drops(&[POWER, ATTACHMENTS])),
+        Shape::Bang | Shape::Meta => Some(Rule::drops(&[
+            Item::One(Name::AttachedNode),
+            ATTACHMENTS,
+        ])),
+        _ => None,
     }
 }
 
-/// `[ , align n ]`, and attachments.
-pub fn align_trailers(shape: Shape) -> Step
-    ensures { step_of result ≡ align_trailers shape }
+/// `[distinct] node`.
+pub fn meta_value(shape: Shape) -> Option<Rule>
+    ensures { by_rule result ≡ first_of meta_value shape }
 {
     match shape {
-        Shape::Comma => Step::Takes(Keep::Drops, &[Symbol::AlignTrailer]),
-        _ => Step::Leaves,
+        Shape::Distinct => Some(Rule::drops(&[Item::One(Name::MetaNode)])),
+        Shape::Bang | Shape::Meta => Some(Rule::drops(&[Item::May(Name::Group)])),
+        _ => None,
     }
 }
 
-/// `align n` or an attachment, and attachments.
-pub fn align_trailer(shape: Shape) -> Step
-    ensures { step_of result ≡ align_trailer shape }
+/// `!name [group]`.
+pub fn meta_node(shape: Shape) -> Option<Rule>
+    ensures { by_rule result ≡ first_of meta_node shape }
 {
     match shape {
-        Shape::Align => Step::Takes(Keep::Drops, &[Symbol::Power, Symbol::Trailers]),
-        Shape::Bang => Step::Takes(Keep::Drops, &[Symbol::SecondMeta, Symbol::Trailers]),
-        Shape::Meta => Step::Takes(Keep::Drops, &[Symbol::SecondMeta, Symbol::Trailers]),
-        _ => Step::Refuses,
-    }
-}
-
-/// A power of two up to 2^32.
-pub fn power(shape: Shape) -> Step
-    ensures { step_of result ≡ power shape }
-{
-    match shape {
-        Shape::Int(Digits::Power) => Step::Takes(Keep::Keeps, &[]),
-        _ => Step::Refuses,
+        Shape::Bang | Shape::Meta => Some(Rule::drops(&[Item::May(Name::Group)])),
+        _ => None,
     }
 }

@@ -1,287 +1,135 @@
-//! Blocks, phis, instructions and terminators: what may stand there, token by token.
+//! Bodies, blocks, phis and terminators.
 ghost use Rattle.std.specs.Prelude.{◌≡◌};
-ghost use Rattle.ir_grammar.specs.Turns.{step_of, turn_of};
-ghost use Rattle.ir_grammar.specs.Blocks.{body, first_block, phis, named_phi, phi_entry, more_phi, next_phi, insts, named_inst, return_value, branch, switch_type, cases, block_end};
+ghost use Rattle.ir_grammar.specs.Blocks.{body, block, label_alone, phi_alone, entry_part, entry_or_attachment, terminators, return_value, branch};
+ghost use Rattle.ir_grammar.specs.Mirrors.Steps.{by_rule};
+ghost use Rattle.ir_grammar.specs.Mirrors.Walk.{first_of};
 
-use crate::scalars::same;
+use crate::grammar::{Item, Keep, Name, Terminal};
+use crate::items::{A_LOCAL, A_SCALAR, ATTACHMENTS, CLOSE_SQUARE, COMMA, LABEL, OPERAND};
+use crate::rules::Rule;
 use crate::shape::Shape;
-use crate::symbol::{Keep, Step, Symbol, Turn};
-use crate::values::value;
 use ir_types::Scalar;
 
-/// `{ blocks }`.
-pub fn body(shape: Shape) -> Step
-    ensures { step_of result ≡ body shape }
+/// `{ [label] lines blocks }`.
+pub fn body(shape: Shape) -> Option<Rule>
+    ensures { by_rule result ≡ first_of body shape }
 {
     match shape {
-        Shape::OpenBrace => Step::Takes(Keep::Keeps, &[Symbol::FirstBlock]),
-        _ => Step::Refuses,
+        Shape::OpenBrace => Some(Rule::keeps(&[
+            Item::May(Name::Label),
+            Item::One(Name::Lines(true)),
+            Item::Many(Name::Block),
+            Item::Token(Terminal::Only(Shape::CloseBrace), Keep::Keeps),
+        ])),
+        _ => None,
     }
 }
 
-/// A block, with or without a label, and more of them.
-pub fn first_block(shape: Shape) -> Turn
-    ensures { turn_of result ≡ first_block shape }
+/// `label lines`.
+pub fn block(shape: Shape) -> Option<Rule>
+    ensures { by_rule result ≡ first_of block shape }
 {
     match shape {
-        Shape::Label => Step::Takes(Keep::Keeps, &[Symbol::Phis]).alone(),
-        _ => phis(shape),
+        Shape::Label => Some(Rule::keeps(&[Item::One(Name::Lines(true))])),
+        _ => None,
     }
 }
 
-/// Phis, dropped records and dropped calls, and then what else a block has.
-pub fn phis(shape: Shape) -> Turn
-    ensures { turn_of result ≡ phis shape }
+/// A label.
+pub fn label_alone(shape: Shape) -> Option<Rule>
+    ensures { by_rule result ≡ first_of label_alone shape }
 {
     match shape {
-        Shape::Local => Step::Takes(
-            Keep::As(Shape::Result),
-            &[Symbol::Equals, Symbol::NamedPhi],
-        ).alone(),
-        Shape::Phi => Step::Takes(
-            Keep::Keeps,
-            &[
-                Symbol::OneScalar,
-                Symbol::PhiEntry,
-                Symbol::MorePhi,
-                Symbol::Phis,
-            ],
-        )
-        .alone(),
-        Shape::Record => Step::Takes(Keep::Drops, &[Symbol::Group, Symbol::Phis]).alone(),
-        Shape::Call => Step::Takes(
-            Keep::Keeps,
-            &[Symbol::ExtAttributes, Symbol::PhiCallReturn],
-        ).alone(),
-        Shape::Tail => Step::Takes(
-            Keep::Drops,
-            &[
-                Symbol::CallWord,
-                Symbol::ExtAttributes,
-                Symbol::PhiCallReturn,
-            ],
-        )
-        .alone(),
-        _ => insts(shape),
+        Shape::Label => Some(Rule::keeps(&[])),
+        _ => None,
     }
 }
 
-/// A phi or another instruction that has a result.
-pub fn named_phi(shape: Shape) -> Turn
-    ensures { turn_of result ≡ named_phi shape }
+/// `phi T [ a, %l ], [ b, %m ] attachments`, behind which phis may still come.
+pub fn phi_alone(shape: Shape) -> Option<Rule>
+    ensures { by_rule result ≡ first_of phi_alone shape }
 {
     match shape {
-        Shape::Phi => Step::Takes(
-            Keep::Keeps,
-            &[
-                Symbol::OneScalar,
-                Symbol::PhiEntry,
-                Symbol::MorePhi,
-                Symbol::Phis,
-            ],
-        )
-        .alone(),
-        _ => value(shape).then(Symbol::Insts),
+        Shape::Phi => Some(Rule::keeps(&[
+            A_SCALAR,
+            Item::Token(Terminal::Only(Shape::OpenSquare), Keep::Keeps),
+            OPERAND,
+            COMMA,
+            A_LOCAL,
+            CLOSE_SQUARE,
+            Item::May(Name::EntryPart),
+            Item::One(Name::Lines(true)),
+        ])),
+        _ => None,
     }
 }
 
-/// `[ a, %l ]`.
-pub fn phi_entry(shape: Shape) -> Step
-    ensures { step_of result ≡ phi_entry shape }
+/// `,` and an entry or an attachment.
+pub fn entry_part(shape: Shape) -> Option<Rule>
+    ensures { by_rule result ≡ first_of entry_part shape }
 {
     match shape {
-        Shape::OpenSquare => Step::Takes(
-            Keep::Keeps,
-            &[
-                Symbol::Operand,
-                Symbol::Comma,
-                Symbol::LocalName,
-                Symbol::CloseSquare,
-            ],
-        ),
-        _ => Step::Refuses,
+        Shape::Comma => Some(Rule::drops(&[Item::One(Name::EntryOrAttachment)])),
+        _ => None,
     }
 }
 
-/// Any number of entries, each behind a comma, and attachments.
-pub fn more_phi(shape: Shape) -> Step
-    ensures { step_of result ≡ more_phi shape }
+/// `[ a, %l ]` and more of them, or `!name node attachments`.
+pub fn entry_or_attachment(shape: Shape) -> Option<Rule>
+    ensures { by_rule result ≡ first_of entry_or_attachment shape }
 {
     match shape {
-        Shape::Comma => Step::Takes(Keep::Drops, &[Symbol::NextPhi]),
-        _ => Step::Leaves,
+        Shape::OpenSquare => Some(Rule::keeps(&[
+            OPERAND,
+            COMMA,
+            A_LOCAL,
+            CLOSE_SQUARE,
+            Item::May(Name::EntryPart),
+        ])),
+        Shape::Bang | Shape::Meta => Some(Rule::drops(&[
+            Item::One(Name::AttachedNode),
+            ATTACHMENTS,
+        ])),
+        _ => None,
     }
 }
 
-/// An entry, and more of them, or an attachment.
-pub fn next_phi(shape: Shape) -> Step
-    ensures { step_of result ≡ next_phi shape }
+/// A terminator.
+pub fn terminators(shape: Shape) -> Option<Rule>
+    ensures { by_rule result ≡ first_of terminators shape }
 {
     match shape {
-        Shape::OpenSquare => Step::Takes(
-            Keep::Keeps,
-            &[
-                Symbol::Operand,
-                Symbol::Comma,
-                Symbol::LocalName,
-                Symbol::CloseSquare,
-                Symbol::MorePhi,
-            ],
-        ),
-        Shape::Bang => Step::Takes(Keep::Drops, &[Symbol::SecondMeta, Symbol::Trailers]),
-        Shape::Meta => Step::Takes(Keep::Drops, &[Symbol::SecondMeta, Symbol::Trailers]),
-        _ => Step::Refuses,
+        Shape::Ret => Some(Rule::keeps(&[Item::One(Name::ReturnValue), ATTACHMENTS])),
+        Shape::Br => Some(Rule::keeps(&[Item::One(Name::Branch), ATTACHMENTS])),
+        Shape::Switch => Some(Rule::keeps(&[Item::One(Name::SwitchType), ATTACHMENTS])),
+        Shape::Unreachable => Some(Rule::keeps(&[ATTACHMENTS])),
+        _ => None,
     }
 }
 
-/// Instructions, dropped records and dropped calls, and the terminator.
-pub fn insts(shape: Shape) -> Turn
-    ensures { turn_of result ≡ insts shape }
+/// `void` or `T a`.
+pub fn return_value(shape: Shape) -> Option<Rule>
+    ensures { by_rule result ≡ first_of return_value shape }
 {
     match shape {
-        Shape::Local => Step::Takes(
-            Keep::As(Shape::Result),
-            &[Symbol::Equals, Symbol::NamedInst],
-        )
-        .alone(),
-        Shape::Record => Step::Takes(Keep::Drops, &[Symbol::Group, Symbol::Insts]).alone(),
-        Shape::Store => Step::Takes(
-            Keep::Keeps,
-            &[
-                Symbol::OneScalar,
-                Symbol::Operand,
-                Symbol::Comma,
-                Symbol::Pointer,
-                Symbol::Operand,
-                Symbol::AlignTrailers,
-                Symbol::Insts,
-            ],
-        )
-        .alone(),
-        Shape::Call => Step::Takes(
-            Keep::Keeps,
-            &[Symbol::ExtAttributes, Symbol::CallReturn],
-        ).alone(),
-        Shape::Tail => Step::Takes(
-            Keep::Drops,
-            &[Symbol::CallWord, Symbol::ExtAttributes, Symbol::CallReturn],
-        )
-        .alone(),
-        Shape::Ret => Step::Takes(Keep::Keeps, &[Symbol::ReturnValue]).alone(),
-        Shape::Br => Step::Takes(Keep::Keeps, &[Symbol::Branch]).alone(),
-        Shape::Switch => Step::Takes(Keep::Keeps, &[Symbol::SwitchType]).alone(),
-        Shape::Unreachable => Step::Takes(
-            Keep::Keeps,
-            &[Symbol::Trailers, Symbol::BlockEnd],
-        ).alone(),
-        _ => value(shape).then(Symbol::Insts),
-    }
-}
-
-/// An instruction that has a result.
-pub fn named_inst(shape: Shape) -> Turn
-    ensures { turn_of result ≡ named_inst shape }
-{
-    value(shape).then(Symbol::Insts)
-}
-
-/// `void`, or `T a`.
-pub fn return_value(shape: Shape) -> Step
-    ensures { step_of result ≡ return_value shape }
-{
-    match shape {
-        Shape::Void => Step::Takes(Keep::Keeps, &[Symbol::Trailers, Symbol::BlockEnd]),
-        Shape::Scalar(_) => Step::Takes(
-            Keep::Keeps,
-            &[Symbol::Operand, Symbol::Trailers, Symbol::BlockEnd],
-        ),
-        _ => Step::Refuses,
+        Shape::Void => Some(Rule::keeps(&[])),
+        Shape::Scalar(_) => Some(Rule::keeps(&[OPERAND])),
+        _ => None,
     }
 }
 
 /// `label %l`, or `i1 c, label %l, label %m`.
-pub fn branch(shape: Shape) -> Step
-    ensures { step_of result ≡ branch shape }
+pub fn branch(shape: Shape) -> Option<Rule>
+    ensures { by_rule result ≡ first_of branch shape }
 {
     match shape {
-        Shape::LabelWord => Step::Takes(
-            Keep::Drops,
-            &[Symbol::LocalName, Symbol::Trailers, Symbol::BlockEnd],
-        ),
-        Shape::Scalar(Scalar::I1) => Step::Takes(
+        Shape::LabelWord => Some(Rule::drops(&[Item::Token(
+            Terminal::Only(Shape::Local),
             Keep::Keeps,
-            &[
-                Symbol::Operand,
-                Symbol::Comma,
-                Symbol::LabelWord,
-                Symbol::LocalName,
-                Symbol::Comma,
-                Symbol::LabelWord,
-                Symbol::LocalName,
-                Symbol::Trailers,
-                Symbol::BlockEnd,
-            ],
-        ),
-        _ => Step::Refuses,
-    }
-}
-
-/// `T v, label %d [ cases ]`.
-pub fn switch_type(shape: Shape) -> Turn
-    ensures { turn_of result ≡ switch_type shape }
-{
-    match shape {
-        Shape::Scalar(ty) => Step::Takes(
-            Keep::Keeps,
-            &[
-                Symbol::Operand,
-                Symbol::Comma,
-                Symbol::LabelWord,
-                Symbol::LocalName,
-                Symbol::OpenSquare,
-            ],
-        )
-        .then(Symbol::Cases(ty)),
-        _ => Step::Refuses.alone(),
-    }
-}
-
-/// `]`, or `T c, label %l` with the type of `v`, and more of them.
-pub fn cases(ty: Scalar, shape: Shape) -> Turn
-    ensures { turn_of result ≡ cases ty shape }
-{
-    match shape {
-        Shape::CloseSquare => Step::Takes(
-            Keep::Keeps,
-            &[Symbol::Trailers, Symbol::BlockEnd],
-        ).alone(),
-        Shape::Scalar(other) => {
-            if same(ty, other) {
-                Step::Takes(
-                    Keep::Drops,
-                    &[
-                        Symbol::Number,
-                        Symbol::Comma,
-                        Symbol::LabelWord,
-                        Symbol::LocalName,
-                    ],
-                )
-                .then(Symbol::Cases(ty))
-            } else {
-                Step::Refuses.alone()
-            }
-        }
-        _ => Step::Refuses.alone(),
-    }
-}
-
-/// The label of the next block, or `}`.
-pub fn block_end(shape: Shape) -> Step
-    ensures { step_of result ≡ block_end shape }
-{
-    match shape {
-        Shape::Label => Step::Takes(Keep::Keeps, &[Symbol::Phis]),
-        Shape::CloseBrace => Step::Takes(Keep::Keeps, &[]),
-        _ => Step::Refuses,
+        )])),
+        Shape::Scalar(Scalar::I1) => Some(Rule::keeps(&[
+            OPERAND, COMMA, LABEL, A_LOCAL, COMMA, LABEL, A_LOCAL,
+        ])),
+        _ => None,
     }
 }

@@ -1,210 +1,111 @@
-//! Calls: what may stand there, token by token.
+//! Calls.
 ghost use Rattle.std.specs.Prelude.{◌≡◌};
-ghost use Rattle.ir_grammar.specs.Turns.{step_of, turn_of};
-ghost use Rattle.ir_grammar.specs.Calls.{returned_scalar, whole_type, first_type, more_types, next_type, first_argument, more_arguments, argument, call_return, void_callee, void_arguments, phi_call_return, phi_void_callee};
+ghost use Rattle.ir_grammar.specs.Calls.{whole_type, types, more_types, next_type, argument, named_call};
+ghost use Rattle.ir_grammar.specs.Mirrors.Steps.{by_rule};
+ghost use Rattle.ir_grammar.specs.Mirrors.Walk.{first_of};
 
-use crate::constants::operand;
-use crate::shape::{AtName, Shape};
-use crate::symbol::{Keep, Step, Symbol, Turn};
+use crate::grammar::{Item, Keep, Name, Terminal};
+use crate::items::{ATTACHMENTS, ATTRIBUTES, CLOSE_PAREN, OPEN_PAREN, OPERAND};
+use crate::rules::Rule;
+use crate::shape::Shape;
 
-/// The scalar that a call with a name returns.
-pub fn returned_scalar(shape: Shape) -> Step
-    ensures { step_of result ≡ returned_scalar shape }
+/// `( types )`.
+pub fn whole_type(shape: Shape) -> Option<Rule>
+    ensures { by_rule result ≡ first_of whole_type shape }
 {
     match shape {
-        Shape::Scalar(ty) => Step::Takes(Keep::As(Shape::Returned(ty)), &[]),
-        _ => Step::Refuses,
+        Shape::OpenParen => Some(Rule::keeps(&[Item::One(Name::Types)])),
+        _ => None,
     }
 }
 
-/// `[ ( types ) ]`, with `...` behind them or not: the whole type of a call.
-pub fn whole_type(shape: Shape) -> Step
-    ensures { step_of result ≡ whole_type shape }
+/// `)`, `... )`, or `T` and more of them.
+pub fn types(shape: Shape) -> Option<Rule>
+    ensures { by_rule result ≡ first_of types shape }
 {
     match shape {
-        Shape::OpenParen => Step::Takes(Keep::Keeps, &[Symbol::FirstType]),
-        _ => Step::Leaves,
-    }
-}
-
-/// `)` or `... )`, or a scalar and more of them.
-pub fn first_type(shape: Shape) -> Step
-    ensures { step_of result ≡ first_type shape }
-{
-    match shape {
-        Shape::CloseParen => Step::Takes(Keep::Keeps, &[]),
-        Shape::Dots => Step::Takes(Keep::Keeps, &[Symbol::CloseParen]),
-        Shape::Scalar(_) => Step::Takes(Keep::Keeps, &[Symbol::MoreTypes]),
-        _ => Step::Refuses,
-    }
-}
-
-/// `)`, or a comma and then a scalar or `... )`.
-pub fn more_types(shape: Shape) -> Step
-    ensures { step_of result ≡ more_types shape }
-{
-    match shape {
-        Shape::CloseParen => Step::Takes(Keep::Keeps, &[]),
-        Shape::Comma => Step::Takes(Keep::Drops, &[Symbol::NextType]),
-        _ => Step::Refuses,
-    }
-}
-
-/// A scalar and more of them, or `... )`.
-pub fn next_type(shape: Shape) -> Step
-    ensures { step_of result ≡ next_type shape }
-{
-    match shape {
-        Shape::Dots => Step::Takes(Keep::Keeps, &[Symbol::CloseParen]),
-        Shape::Scalar(_) => Step::Takes(Keep::Keeps, &[Symbol::MoreTypes]),
-        _ => Step::Refuses,
-    }
-}
-
-/// `)`, or an argument and more of them.
-pub fn first_argument(shape: Shape) -> Step
-    ensures { step_of result ≡ first_argument shape }
-{
-    match shape {
-        Shape::CloseParen => Step::Takes(Keep::Keeps, &[]),
-        Shape::Scalar(_) => Step::Takes(
+        Shape::CloseParen => Some(Rule::keeps(&[])),
+        Shape::Dots => Some(Rule::keeps(&[Item::Token(
+            Terminal::Only(Shape::CloseParen),
             Keep::Keeps,
-            &[
-                Symbol::ExtAttributes,
-                Symbol::Operand,
-                Symbol::MoreArguments,
-            ],
-        ),
-        _ => Step::Refuses,
+        )])),
+        Shape::Scalar(_) => Some(Rule::keeps(&[Item::One(Name::MoreTypes)])),
+        _ => None,
     }
 }
 
-/// `)`, or a comma, an argument and more of them.
-pub fn more_arguments(shape: Shape) -> Step
-    ensures { step_of result ≡ more_arguments shape }
+/// `)`, or a comma and more types.
+pub fn more_types(shape: Shape) -> Option<Rule>
+    ensures { by_rule result ≡ first_of more_types shape }
 {
     match shape {
-        Shape::CloseParen => Step::Takes(Keep::Keeps, &[]),
-        Shape::Comma => Step::Takes(Keep::Drops, &[Symbol::Argument]),
-        _ => Step::Refuses,
+        Shape::CloseParen => Some(Rule::keeps(&[])),
+        Shape::Comma => Some(Rule::drops(&[Item::One(Name::NextType)])),
+        _ => None,
     }
 }
 
-/// A scalar, attributes and an operand, and more of them.
-pub fn argument(shape: Shape) -> Step
-    ensures { step_of result ≡ argument shape }
+/// `... )`, or `T` and more of them.
+pub fn next_type(shape: Shape) -> Option<Rule>
+    ensures { by_rule result ≡ first_of next_type shape }
 {
     match shape {
-        Shape::Scalar(_) => Step::Takes(
+        Shape::Dots => Some(Rule::keeps(&[Item::Token(
+            Terminal::Only(Shape::CloseParen),
             Keep::Keeps,
-            &[
-                Symbol::ExtAttributes,
-                Symbol::Operand,
-                Symbol::MoreArguments,
-            ],
-        ),
-        _ => Step::Refuses,
+        )])),
+        Shape::Scalar(_) => Some(Rule::keeps(&[Item::One(Name::MoreTypes)])),
+        _ => None,
     }
 }
 
-/// What a call without a name returns, and the rest of it. A call of `void` to a name of debug information is dropped.
-pub fn call_return(shape: Shape) -> Step
-    ensures { step_of result ≡ call_return shape }
+/// `T attributes a`.
+pub fn argument(shape: Shape) -> Option<Rule>
+    ensures { by_rule result ≡ first_of argument shape }
 {
     match shape {
-        Shape::Scalar(ty) => Step::Takes(
-            Keep::As(Shape::Returned(ty)),
-            &[
-                Symbol::WholeType,
-                Symbol::Operand,
-                Symbol::OpenParen,
-                Symbol::FirstArgument,
-                Symbol::CallAttributes,
-                Symbol::Trailers,
-                Symbol::Insts,
-            ],
-        ),
-        Shape::Void => Step::Takes(Keep::Keeps, &[Symbol::WholeType, Symbol::VoidCallee]),
-        _ => Step::Refuses,
+        Shape::Scalar(_) => Some(Rule::keeps(&[
+            ATTRIBUTES,
+            Item::May(Name::Extension),
+            ATTRIBUTES,
+            OPERAND,
+        ])),
+        _ => None,
     }
 }
 
-/// The callee of a call of `void`, and the rest.
-pub fn void_callee(shape: Shape) -> Turn
-    ensures { turn_of result ≡ void_callee shape }
+/// `[tail] call attributes T [( types )] f ( arguments ) attributes attachments`.
+pub fn named_call(shape: Shape) -> Option<Rule>
+    ensures { by_rule result ≡ first_of named_call shape }
 {
     match shape {
-        Shape::At(AtName::Debug) => Step::Takes(
-            Keep::Keeps,
-            &[
-                Symbol::Group,
-                Symbol::CallAttributes,
-                Symbol::Trailers,
-                Symbol::Insts,
-            ],
-        )
-        .alone(),
-        Shape::At(_) => Step::Takes(Keep::Keeps, &[Symbol::VoidArguments]).alone(),
-        _ => operand(shape).then(Symbol::VoidArguments),
-    }
-}
-
-/// `( arguments )` and attributes of a call of `void`.
-pub fn void_arguments(shape: Shape) -> Step
-    ensures { step_of result ≡ void_arguments shape }
-{
-    match shape {
-        Shape::OpenParen => Step::Takes(
-            Keep::Drops,
-            &[
-                Symbol::FirstArgument,
-                Symbol::CallAttributes,
-                Symbol::Trailers,
-                Symbol::Insts,
-            ],
-        ),
-        _ => Step::Refuses,
-    }
-}
-
-/// The same, where phis may follow a dropped call.
-pub fn phi_call_return(shape: Shape) -> Step
-    ensures { step_of result ≡ phi_call_return shape }
-{
-    match shape {
-        Shape::Scalar(ty) => Step::Takes(
-            Keep::As(Shape::Returned(ty)),
-            &[
-                Symbol::WholeType,
-                Symbol::Operand,
-                Symbol::OpenParen,
-                Symbol::FirstArgument,
-                Symbol::CallAttributes,
-                Symbol::Trailers,
-                Symbol::Insts,
-            ],
-        ),
-        Shape::Void => Step::Takes(Keep::Keeps, &[Symbol::WholeType, Symbol::PhiVoidCallee]),
-        _ => Step::Refuses,
-    }
-}
-
-/// The same, where phis may follow a dropped call.
-pub fn phi_void_callee(shape: Shape) -> Turn
-    ensures { turn_of result ≡ phi_void_callee shape }
-{
-    match shape {
-        Shape::At(AtName::Debug) => Step::Takes(
-            Keep::Keeps,
-            &[
-                Symbol::Group,
-                Symbol::CallAttributes,
-                Symbol::Trailers,
-                Symbol::Phis,
-            ],
-        )
-        .alone(),
-        Shape::At(_) => Step::Takes(Keep::Keeps, &[Symbol::VoidArguments]).alone(),
-        _ => operand(shape).then(Symbol::VoidArguments),
+        Shape::Call => Some(Rule::keeps(&[
+            ATTRIBUTES,
+            Item::May(Name::Extension),
+            ATTRIBUTES,
+            Item::Token(Terminal::AnyScalar, Keep::AsReturned),
+            Item::May(Name::WholeType),
+            OPERAND,
+            OPEN_PAREN,
+            Item::Separated(Name::Argument),
+            CLOSE_PAREN,
+            Item::Many(Name::CallAttribute),
+            ATTACHMENTS,
+        ])),
+        Shape::Tail => Some(Rule::drops(&[
+            Item::Token(Terminal::Only(Shape::Call), Keep::Keeps),
+            ATTRIBUTES,
+            Item::May(Name::Extension),
+            ATTRIBUTES,
+            Item::Token(Terminal::AnyScalar, Keep::AsReturned),
+            Item::May(Name::WholeType),
+            OPERAND,
+            OPEN_PAREN,
+            Item::Separated(Name::Argument),
+            CLOSE_PAREN,
+            Item::Many(Name::CallAttribute),
+            ATTACHMENTS,
+        ])),
+        _ => None,
     }
 }

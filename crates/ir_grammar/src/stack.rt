@@ -1,17 +1,30 @@
-//! The stack of symbols: what stands next in the text is its top.
-ghost use Rattle.std.specs.Prelude.{◌≡◌, ◌++◌, IfOk, OnOk, nat_le, reverse};
+//! The stack of items: what stands next in the text is its top.
+ghost use Rattle.std.specs.Prelude.{◌≡◌, ◌++◌, ◌∷◌, IfOk, OnOk, List as ListOf, reverse, option_map};
 ghost use Rattle.std.specs.Option.{option_to_list};
-ghost use Rattle.std.specs.List.{list_all, prefix_len};
-ghost use Rattle.ir_grammar.specs.Turns.{turn_of};
-ghost use Rattle.ir_grammar.specs.Grammar.{turn_at};
-ghost use Rattle.ir_grammar.specs.Walk.{is_open_address, around, settle, settled_of};
+ghost use Rattle.ir_grammar.specs.declared.grammar.Item.{Item as ItemOf};
+ghost use Rattle.ir_grammar.specs.Derives.{is_comma, is_flag};
+ghost use Rattle.ir_grammar.specs.Mirrors.Walk.{keep_of, flag_taken, settle, may_end};
+ghost use Rattle.ir_grammar.specs.Mirrors.Steps.{step_of, by_move, settled_of};
 
-use crate::shape::Shape;
-use crate::symbol::{Keep, Step, Symbol, Turn};
-use crate::turns::{Around, turn_at};
+use crate::grammar::{FlagPart, Flags, Item, Keep};
+use crate::rules::Step;
+use crate::shape::{Free, Shape};
+use crate::tables::turn_at;
+use crate::terminals::{is_same, stands_for};
 use ir_types::{List, OutOfMemory};
 
-/// What becomes of a token: a symbol takes it, or all symbols leave, or one refuses it.
+/// What an item does at a token.
+#[derive(Clone, Copy, Debug)]
+pub enum Move {
+    /// It takes the token: this stands in its place, and then this item.
+    Takes(Step, Option<Item>),
+    /// It is left out.
+    Leaves,
+    /// The token can't stand here.
+    Refuses,
+}
+
+/// What becomes of a token: an item takes it, or all are left out, or one refuses it.
 #[derive(Clone, Copy, Debug)]
 pub enum Settled {
     Taken(Keep),
@@ -19,51 +32,102 @@ pub enum Settled {
     Refused,
 }
 
-/// So many addresses may be open at once.
-const DEEPEST: usize = 64;
-
-fn is_open_address(symbol: Symbol) -> bool
-    ensures { result ≡ is_open_address symbol }
+/// The token is taken as it is, and this item comes next.
+fn taken(keep: Keep, next: Option<Item>) -> Step
+    ensures { step_of result ≡ (keep, option_to_list next) }
 {
-    match symbol {
-        Symbol::MoreIndices => true,
-        _ => false,
+    Step {
+        keep,
+        behind: &[],
+        then: next,
+        last: &[],
     }
 }
 
-/// Whether each of these symbols is in an open address.
-fn are_open(symbols: &[Symbol]) -> bool
-    ensures { result ≡ list_all is_open_address symbols.now }
+fn is_flag(part: Option<FlagPart>, shape: Shape) -> bool
+    ensures { result ≡ is_flag part shape }
 {
-    symbols.iter().all(|symbol| is_open_address(*symbol))
-}
-
-/// Whether so many addresses are open below as may be open at once.
-fn is_deep(below: &[Symbol]) -> bool
-    ensures { result ≡ nat_le 64 (prefix_len is_open_address (reverse below.now)) }
-{
-    if below.len() < DEEPEST {
-        return false;
+    match part {
+        None => false,
+        Some(part) => is_same(Shape::Free(Free::Flag(part.flag)), shape),
     }
-    are_open(&below[below.len() - DEEPEST..])
 }
 
-/// What a symbol does at a token, over the symbols below it.
-fn turn_over(symbol: Symbol, shape: Shape, before_group: bool, below: &[Symbol]) -> Turn
-    ensures { turn_of result ≡ turn_at symbol shape (around before_group (reverse below.now)) }
+fn keep_of(part: Option<FlagPart>) -> Keep
+    ensures { result ≡ keep_of part }
 {
-    let deep = match symbol {
-        Symbol::AddressBase => is_deep(below),
-        _ => false,
-    };
-    turn_at(symbol, shape, Around { before_group, deep })
+    match part {
+        None => Keep::Drops,
+        Some(part) => part.keep,
+    }
 }
 
-/// Puts symbols on the stack, so that the first of them is on top.
-fn push_all(stack: &mut List<Symbol>, symbols: &[Symbol]) -> Result<(), OutOfMemory>
-    ensures { OnOk result (reverse stack.new ≡ symbols.now ++ reverse stack.old) }
+/// How the token is kept where it is one of these flags, and the flags that may still come.
+fn flag_taken(flags: Flags, shape: Shape) -> Option<(Keep, Flags)>
+    ensures { result ≡ flag_taken flags shape }
 {
-    let mut left = symbols;
+    if is_flag(flags.a, shape) {
+        let left = Flags { a: None, ..flags };
+        Some((keep_of(flags.a), left))
+    } else if is_flag(flags.b, shape) {
+        let left = Flags { b: None, ..flags };
+        Some((keep_of(flags.b), left))
+    } else if is_flag(flags.c, shape) {
+        let left = Flags { c: None, ..flags };
+        Some((keep_of(flags.c), left))
+    } else {
+        None
+    }
+}
+
+/// What an item does at a token.
+fn move_of(item: Item, shape: Shape) -> Move
+    ensures { (items : ListOf ItemOf) → settle shape (item ∷ items) ≡ by_move result items (settle shape items) }
+{
+    match item {
+        Item::Token(terminal, keep) => {
+            if stands_for(terminal, shape) {
+                Move::Takes(taken(keep, None), None)
+            } else {
+                Move::Refuses
+            }
+        }
+        Item::One(name) => match turn_at(name, shape) {
+            Some(step) => Move::Takes(step, None),
+            None => Move::Refuses,
+        },
+        Item::May(name) => match turn_at(name, shape) {
+            Some(step) => Move::Takes(step, None),
+            None => Move::Leaves,
+        },
+        Item::Many(name) => match turn_at(name, shape) {
+            Some(step) => Move::Takes(step, Some(Item::Many(name))),
+            None => Move::Leaves,
+        },
+        Item::Separated(name) => match turn_at(name, shape) {
+            Some(step) => Move::Takes(step, Some(Item::Further(name))),
+            None => Move::Leaves,
+        },
+        Item::Further(name) => {
+            if is_same(Shape::Comma, shape) {
+                let one = taken(Keep::Drops, Some(Item::One(name)));
+                Move::Takes(one, Some(Item::Further(name)))
+            } else {
+                Move::Leaves
+            }
+        }
+        Item::AnyOrder(flags) => match flag_taken(flags, shape) {
+            Some((keep, left)) => Move::Takes(taken(keep, None), Some(Item::AnyOrder(left))),
+            None => Move::Leaves,
+        },
+    }
+}
+
+/// Puts items on the stack, so that the first of them is on top.
+fn push_all(stack: &mut List<Item>, items: &[Item]) -> Result<(), OutOfMemory>
+    ensures { OnOk result (reverse stack.new ≡ items.now ++ reverse stack.old) }
+{
+    let mut left = items;
     while let [before @ .., last] = left {
         stack.push(*last)?;
         left = before;
@@ -71,39 +135,55 @@ fn push_all(stack: &mut List<Symbol>, symbols: &[Symbol]) -> Result<(), OutOfMem
     Ok(())
 }
 
-/// Puts what stands for a symbol in its place.
-fn push_turn(
-    stack: &mut List<Symbol>,
-    next: &[Symbol],
-    last: Option<Symbol>,
-) -> Result<(), OutOfMemory>
-    ensures { OnOk result (reverse stack.new ≡ next.now ++ option_to_list last ++ reverse stack.old) }
+/// Puts an item on the stack, if there is one.
+fn push_one(stack: &mut List<Item>, item: Option<Item>) -> Result<(), OutOfMemory>
+    ensures { OnOk result (reverse stack.new ≡ option_to_list item ++ reverse stack.old) }
 {
-    if let Some(symbol) = last {
-        stack.push(symbol)?;
+    if let Some(item) = item {
+        stack.push(item)?;
     }
-    push_all(stack, next)
+    Ok(())
 }
 
-/// Finds the symbol that takes a token, and puts what stands for it in its place. Those above it
-/// leave.
-pub fn settle(
-    stack: &mut List<Symbol>,
-    shape: Shape,
-    before_group: bool,
-) -> Result<Settled, OutOfMemory>
-    ensures { IfOk result (λ settled. settle shape before_group (reverse stack.old) ≡ settled_of settled (reverse stack.new)) }
+/// Puts what stands for an item in its place.
+fn push_step(stack: &mut List<Item>, step: Step, again: Option<Item>) -> Result<(), OutOfMemory>
+    ensures { OnOk result (reverse stack.new ≡ (step_of step).1 ++ (option_to_list again ++ reverse stack.old)) }
 {
-    while let Some(symbol) = stack.pop() {
-        let turn = turn_over(symbol, shape, before_group, stack.as_slice());
-        match turn.step {
-            Step::Takes(keep, next) => {
-                push_turn(stack, next, turn.then)?;
-                return Ok(Settled::Taken(keep));
+    push_one(stack, again)?;
+    push_all(stack, step.last)?;
+    push_one(stack, step.then)?;
+    push_all(stack, step.behind)
+}
+
+/// Finds the item that takes a token, and puts what stands for it in its place. Those above it
+/// are left out.
+pub fn settle(stack: &mut List<Item>, shape: Shape) -> Result<Settled, OutOfMemory>
+    ensures { IfOk result (λ settled. settle shape (reverse stack.old) ≡ settled_of settled (reverse stack.new)) }
+{
+    while let Some(item) = stack.pop() {
+        match move_of(item, shape) {
+            Move::Takes(step, again) => {
+                push_step(stack, step, again)?;
+                return Ok(Settled::Taken(step.keep));
             }
-            Step::Leaves => {}
-            Step::Refuses => return Ok(Settled::Refused),
+            Move::Leaves => {}
+            Move::Refuses => return Ok(Settled::Refused),
         }
     }
     Ok(Settled::AllLeft)
+}
+
+/// Whether the tokens may end before these items.
+pub fn may_end(stack: &[Item]) -> bool
+    ensures { result ≡ may_end (reverse stack.now) }
+{
+    let mut left = stack;
+    while let [before @ .., last] = left {
+        match last {
+            Item::Token(_, _) | Item::One(_) => return false,
+            _ => {}
+        }
+        left = before;
+    }
+    true
 }

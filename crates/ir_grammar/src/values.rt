@@ -1,303 +1,190 @@
-//! Instructions that have a result: what may stand there, token by token.
+//! Instructions that have a result, other than phis.
 ghost use Rattle.std.specs.Prelude.{◌≡◌};
-ghost use Rattle.ir_grammar.specs.Turns.{step_of, turn_of};
-ghost use Rattle.ir_grammar.specs.Values.{arithmetic, value, select_type, select_other, alloca_more, alloca_part, gep_indices, gep_index};
+ghost use Rattle.ir_grammar.specs.Values.{arithmetic, other_value, alloca_part, alloca_option, index_part, index_or_attachment};
+ghost use Rattle.ir_grammar.specs.Mirrors.Steps.{by_rule};
+ghost use Rattle.ir_grammar.specs.Mirrors.Walk.{first_of};
 
-use crate::scalars::same;
-use crate::shape::Shape;
-use crate::symbol::{Keep, Step, Symbol, Turn};
+use crate::grammar::{FlagPart, Flags, Item, Keep, Name, Terminal};
+use crate::items::{A_SCALAR, ADDRESS_FLAGS, ATTACHMENTS, COMMA, OPERAND, POINTER, POWER};
+use crate::rules::Rule;
+use crate::shape::{Flag, Shape};
 use ir_types::{BinOp, CastOp, Scalar};
 
 /// `op flags T a, b`.
-pub fn arithmetic(shape: Shape) -> Step
-    ensures { step_of result ≡ arithmetic shape }
+pub fn arithmetic(shape: Shape) -> Option<Rule>
+    ensures { by_rule result ≡ first_of arithmetic shape }
 {
     match shape {
-        Shape::Bin(BinOp::Add) => Step::Takes(
-            Keep::Keeps,
-            &[
-                Symbol::Overflow,
-                Symbol::OneScalar,
-                Symbol::Operand,
-                Symbol::Comma,
-                Symbol::Operand,
-                Symbol::Trailers,
-            ],
-        ),
-        Shape::Bin(BinOp::Sub) => Step::Takes(
-            Keep::Keeps,
-            &[
-                Symbol::Overflow,
-                Symbol::OneScalar,
-                Symbol::Operand,
-                Symbol::Comma,
-                Symbol::Operand,
-                Symbol::Trailers,
-            ],
-        ),
-        Shape::Bin(BinOp::Mul) => Step::Takes(
-            Keep::Keeps,
-            &[
-                Symbol::Overflow,
-                Symbol::OneScalar,
-                Symbol::Operand,
-                Symbol::Comma,
-                Symbol::Operand,
-                Symbol::Trailers,
-            ],
-        ),
-        Shape::Bin(BinOp::Shl) => Step::Takes(
-            Keep::Keeps,
-            &[
-                Symbol::Overflow,
-                Symbol::OneScalar,
-                Symbol::Operand,
-                Symbol::Comma,
-                Symbol::Operand,
-                Symbol::Trailers,
-            ],
-        ),
-        Shape::Bin(BinOp::Udiv) => Step::Takes(
-            Keep::Keeps,
-            &[
-                Symbol::MayBeExact,
-                Symbol::OneScalar,
-                Symbol::Operand,
-                Symbol::Comma,
-                Symbol::Operand,
-                Symbol::Trailers,
-            ],
-        ),
-        Shape::Bin(BinOp::Sdiv) => Step::Takes(
-            Keep::Keeps,
-            &[
-                Symbol::MayBeExact,
-                Symbol::OneScalar,
-                Symbol::Operand,
-                Symbol::Comma,
-                Symbol::Operand,
-                Symbol::Trailers,
-            ],
-        ),
-        Shape::Bin(BinOp::Lshr) => Step::Takes(
-            Keep::Keeps,
-            &[
-                Symbol::MayBeExact,
-                Symbol::OneScalar,
-                Symbol::Operand,
-                Symbol::Comma,
-                Symbol::Operand,
-                Symbol::Trailers,
-            ],
-        ),
-        Shape::Bin(BinOp::Ashr) => Step::Takes(
-            Keep::Keeps,
-            &[
-                Symbol::MayBeExact,
-                Symbol::OneScalar,
-                Symbol::Operand,
-                Symbol::Comma,
-                Symbol::Operand,
-                Symbol::Trailers,
-            ],
-        ),
-        Shape::Bin(BinOp::Or) => Step::Takes(
-            Keep::Keeps,
-            &[
-                Symbol::MayBeDisjoint,
-                Symbol::OneScalar,
-                Symbol::Operand,
-                Symbol::Comma,
-                Symbol::Operand,
-                Symbol::Trailers,
-            ],
-        ),
-        Shape::Bin(_) => Step::Takes(
-            Keep::Keeps,
-            &[
-                Symbol::OneScalar,
-                Symbol::Operand,
-                Symbol::Comma,
-                Symbol::Operand,
-                Symbol::Trailers,
-            ],
-        ),
-        _ => Step::Refuses,
+        Shape::Bin(BinOp::Add | BinOp::Sub | BinOp::Mul | BinOp::Shl) => Some(Rule::keeps(&[
+            Item::AnyOrder(Flags {
+                a: Some(FlagPart {
+                    flag: Flag::Nuw,
+                    keep: Keep::Keeps,
+                }),
+                b: Some(FlagPart {
+                    flag: Flag::Nsw,
+                    keep: Keep::Keeps,
+                }),
+                c: None,
+            }),
+            A_SCALAR,
+            OPERAND,
+            COMMA,
+            OPERAND,
+            ATTACHMENTS,
+        ])),
+        Shape::Bin(BinOp::Udiv | BinOp::Sdiv | BinOp::Lshr | BinOp::Ashr) => Some(Rule::keeps(&[
+            Item::AnyOrder(Flags {
+                a: Some(FlagPart {
+                    flag: Flag::Exact,
+                    keep: Keep::Keeps,
+                }),
+                b: None,
+                c: None,
+            }),
+            A_SCALAR,
+            OPERAND,
+            COMMA,
+            OPERAND,
+            ATTACHMENTS,
+        ])),
+        Shape::Bin(BinOp::Or) => Some(Rule::keeps(&[
+            Item::AnyOrder(Flags {
+                a: Some(FlagPart {
+                    flag: Flag::Disjoint,
+                    keep: Keep::Keeps,
+                }),
+                b: None,
+                c: None,
+            }),
+            A_SCALAR,
+            OPERAND,
+            COMMA,
+            OPERAND,
+            ATTACHMENTS,
+        ])),
+        Shape::Bin(BinOp::Urem | BinOp::Srem | BinOp::And | BinOp::Xor) => Some(Rule::keeps(&[
+            A_SCALAR,
+            OPERAND,
+            COMMA,
+            OPERAND,
+            ATTACHMENTS,
+        ])),
+        _ => None,
     }
 }
 
-/// An instruction that has a result, other than a phi.
-pub fn value(shape: Shape) -> Step
-    ensures { step_of result ≡ value shape }
+/// An instruction that has a result, other than arithmetic.
+pub fn other_value(shape: Shape) -> Option<Rule>
+    ensures { by_rule result ≡ first_of other_value shape }
 {
     match shape {
-        Shape::Bin(op) => arithmetic(shape),
-        Shape::Icmp => Step::Takes(
-            Keep::Keeps,
-            &[
-                Symbol::Predicate,
-                Symbol::OneScalar,
-                Symbol::Operand,
-                Symbol::Comma,
-                Symbol::Operand,
-                Symbol::Trailers,
-            ],
-        ),
-        Shape::Select => Step::Takes(
-            Keep::Keeps,
-            &[
-                Symbol::Condition,
-                Symbol::Operand,
-                Symbol::Comma,
-                Symbol::SelectType,
-                Symbol::Trailers,
-            ],
-        ),
-        Shape::Cast(CastOp::Zext) => Step::Takes(
-            Keep::Keeps,
-            &[
-                Symbol::MayBeNneg,
-                Symbol::OneScalar,
-                Symbol::Operand,
-                Symbol::To,
-                Symbol::OneScalar,
-                Symbol::Trailers,
-            ],
-        ),
-        Shape::Cast(_) => Step::Takes(
-            Keep::Keeps,
-            &[
-                Symbol::OneScalar,
-                Symbol::Operand,
-                Symbol::To,
-                Symbol::OneScalar,
-                Symbol::Trailers,
-            ],
-        ),
-        Shape::Alloca => Step::Takes(Keep::Keeps, &[Symbol::AnyType, Symbol::AllocaMore]),
-        Shape::Load => Step::Takes(
-            Keep::Keeps,
-            &[
-                Symbol::OneScalar,
-                Symbol::Comma,
-                Symbol::Pointer,
-                Symbol::Operand,
-                Symbol::AlignTrailers,
-            ],
-        ),
-        Shape::Gep => Step::Takes(
-            Keep::Keeps,
-            &[
-                Symbol::AnyGepFlag,
-                Symbol::AnyType,
-                Symbol::Comma,
-                Symbol::Pointer,
-                Symbol::Operand,
-                Symbol::GepIndices,
-            ],
-        ),
-        Shape::Call => Step::Takes(
-            Keep::Keeps,
-            &[
-                Symbol::ExtAttributes,
-                Symbol::ReturnedScalar,
-                Symbol::WholeType,
-                Symbol::Operand,
-                Symbol::OpenParen,
-                Symbol::FirstArgument,
-                Symbol::CallAttributes,
-                Symbol::Trailers,
-            ],
-        ),
-        Shape::Tail => Step::Takes(
-            Keep::Drops,
-            &[
-                Symbol::CallWord,
-                Symbol::ExtAttributes,
-                Symbol::ReturnedScalar,
-                Symbol::WholeType,
-                Symbol::Operand,
-                Symbol::OpenParen,
-                Symbol::FirstArgument,
-                Symbol::CallAttributes,
-                Symbol::Trailers,
-            ],
-        ),
-        _ => Step::Refuses,
+        Shape::Icmp => Some(Rule::keeps(&[
+            Item::Token(Terminal::AnyPred, Keep::Keeps),
+            A_SCALAR,
+            OPERAND,
+            COMMA,
+            OPERAND,
+            ATTACHMENTS,
+        ])),
+        Shape::Select => Some(Rule::keeps(&[
+            Item::Token(Terminal::Only(Shape::Scalar(Scalar::I1)), Keep::Drops),
+            OPERAND,
+            COMMA,
+            Item::One(Name::SelectArms),
+            ATTACHMENTS,
+        ])),
+        Shape::Cast(CastOp::Zext) => Some(Rule::keeps(&[
+            Item::AnyOrder(Flags {
+                a: Some(FlagPart {
+                    flag: Flag::Nneg,
+                    keep: Keep::Keeps,
+                }),
+                b: None,
+                c: None,
+            }),
+            A_SCALAR,
+            OPERAND,
+            Item::Token(Terminal::Only(Shape::To), Keep::Drops),
+            A_SCALAR,
+            ATTACHMENTS,
+        ])),
+        Shape::Cast(CastOp::Sext | CastOp::Trunc) => Some(Rule::keeps(&[
+            A_SCALAR,
+            OPERAND,
+            Item::Token(Terminal::Only(Shape::To), Keep::Drops),
+            A_SCALAR,
+            ATTACHMENTS,
+        ])),
+        Shape::Alloca => Some(Rule::keeps(&[Item::One(Name::Type), Item::May(Name::AllocaPart)])),
+        Shape::Load => Some(Rule::keeps(&[
+            A_SCALAR,
+            COMMA,
+            POINTER,
+            OPERAND,
+            Item::May(Name::AlignPart),
+        ])),
+        Shape::Gep => Some(Rule::keeps(&[
+            ADDRESS_FLAGS,
+            Item::One(Name::Type),
+            COMMA,
+            POINTER,
+            OPERAND,
+            Item::May(Name::IndexPart),
+        ])),
+        _ => None,
     }
 }
 
-/// `T a, T b`.
-pub fn select_type(shape: Shape) -> Turn
-    ensures { turn_of result ≡ select_type shape }
+/// `,` and a count, an alignment or an attachment.
+pub fn alloca_part(shape: Shape) -> Option<Rule>
+    ensures { by_rule result ≡ first_of alloca_part shape }
 {
     match shape {
-        Shape::Scalar(ty) => Step::Takes(Keep::Keeps, &[Symbol::Operand, Symbol::Comma]).then(
-            Symbol::SelectOther(ty),
+        Shape::Comma => Some(Rule::drops(&[Item::One(Name::AllocaOption)])),
+        _ => None,
+    }
+}
+
+/// `iN n [, align n] attachments`, `align n attachments` or `!name node attachments`.
+pub fn alloca_option(shape: Shape) -> Option<Rule>
+    ensures { by_rule result ≡ first_of alloca_option shape }
+{
+    match shape {
+        Shape::Scalar(Scalar::I1 | Scalar::I8 | Scalar::I16 | Scalar::I32 | Scalar::I64) => Some(
+            Rule::keeps(&[Item::One(Name::Number), Item::May(Name::AlignPart)]),
         ),
-        _ => Step::Refuses.alone(),
+        Shape::Align => Some(Rule::drops(&[POWER, ATTACHMENTS])),
+        Shape::Bang | Shape::Meta => Some(Rule::drops(&[
+            Item::One(Name::AttachedNode),
+            ATTACHMENTS,
+        ])),
+        _ => None,
     }
 }
 
-/// `T b`, with the type of `a`.
-pub fn select_other(ty: Scalar, shape: Shape) -> Step
-    ensures { step_of result ≡ select_other ty shape }
+/// `,` and an index or an attachment.
+pub fn index_part(shape: Shape) -> Option<Rule>
+    ensures { by_rule result ≡ first_of index_part shape }
 {
     match shape {
-        Shape::Scalar(other) => {
-            if same(ty, other) {
-                Step::Takes(Keep::Drops, &[Symbol::Operand])
-            } else {
-                Step::Refuses
-            }
-        }
-        _ => Step::Refuses,
+        Shape::Comma => Some(Rule::drops(&[Item::One(Name::IndexOrAttachment)])),
+        _ => None,
     }
 }
 
-/// `[ , iN count ] [ , align n ]`, and attachments.
-pub fn alloca_more(shape: Shape) -> Step
-    ensures { step_of result ≡ alloca_more shape }
+/// `iN i` and more of them, or `!name node attachments`.
+pub fn index_or_attachment(shape: Shape) -> Option<Rule>
+    ensures { by_rule result ≡ first_of index_or_attachment shape }
 {
     match shape {
-        Shape::Comma => Step::Takes(Keep::Drops, &[Symbol::AllocaPart]),
-        _ => Step::Leaves,
-    }
-}
-
-/// `iN count [ , align n ]`, `align n` or an attachment, and attachments.
-pub fn alloca_part(shape: Shape) -> Step
-    ensures { step_of result ≡ alloca_part shape }
-{
-    match shape {
-        Shape::Scalar(Scalar::Ptr) => Step::Refuses,
-        Shape::Scalar(_) => Step::Takes(Keep::Keeps, &[Symbol::Number, Symbol::AlignTrailers]),
-        Shape::Align => Step::Takes(Keep::Drops, &[Symbol::Power, Symbol::Trailers]),
-        Shape::Bang => Step::Takes(Keep::Drops, &[Symbol::SecondMeta, Symbol::Trailers]),
-        Shape::Meta => Step::Takes(Keep::Drops, &[Symbol::SecondMeta, Symbol::Trailers]),
-        _ => Step::Refuses,
-    }
-}
-
-/// Any number of indices, each behind a comma, and attachments.
-pub fn gep_indices(shape: Shape) -> Step
-    ensures { step_of result ≡ gep_indices shape }
-{
-    match shape {
-        Shape::Comma => Step::Takes(Keep::Drops, &[Symbol::GepIndex]),
-        _ => Step::Leaves,
-    }
-}
-
-/// `iN i` and more of them, or an attachment.
-pub fn gep_index(shape: Shape) -> Step
-    ensures { step_of result ≡ gep_index shape }
-{
-    match shape {
-        Shape::Scalar(Scalar::Ptr) => Step::Refuses,
-        Shape::Scalar(_) => Step::Takes(Keep::Keeps, &[Symbol::Operand, Symbol::GepIndices]),
-        Shape::Bang => Step::Takes(Keep::Drops, &[Symbol::SecondMeta, Symbol::Trailers]),
-        Shape::Meta => Step::Takes(Keep::Drops, &[Symbol::SecondMeta, Symbol::Trailers]),
-        _ => Step::Refuses,
+        Shape::Scalar(Scalar::I1 | Scalar::I8 | Scalar::I16 | Scalar::I32 | Scalar::I64) => Some(
+            Rule::keeps(&[OPERAND, Item::May(Name::IndexPart)]),
+        ),
+        Shape::Bang | Shape::Meta => Some(Rule::drops(&[
+            Item::One(Name::AttachedNode),
+            ATTACHMENTS,
+        ])),
+        _ => None,
     }
 }

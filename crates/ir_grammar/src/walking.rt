@@ -1,24 +1,20 @@
 //! The walk over tokens by the grammar.
-ghost use Rattle.std.specs.Prelude.{◌≡◌, ◌∷◌, [], ◌++◌, ◌-◌, ◌≤◌, drop, take, length, IfOk, OnOk, IfSome};
+ghost use Rattle.std.specs.Prelude.{◌≡◌, ◌∷◌, [], ◌++◌, ◌-◌, ◌≤◌, drop, length, IfOk, OnOk, IfSome, IfNone};
 ghost use Rattle.std.specs.Option.{option_map};
 ghost use Rattle.ir_lexer.specs.Tokens.{text_of, texts_of};
-ghost use Rattle.ir_grammar.specs.Walk.{opens_group, is_group, SettleAlike, keeping, walk, seen};
+ghost use Rattle.ir_grammar.specs.declared.grammar.Item.TheVariants as item;
+ghost use Rattle.ir_grammar.specs.Tokens.{opens_group, is_group, told, shape_before, returned, keeping, seen};
+ghost use Rattle.ir_grammar.specs.Derives.{IsDerived, IsNotDerived};
+ghost use Rattle.ir_grammar.specs.Mirrors.Walk.{walk};
 
+use crate::grammar::{Item, Keep, Name};
 use crate::lexeme::Lexeme;
 use crate::shape::Shape;
 use crate::shapes::shape_of;
-use crate::stack::{Settled, settle};
-use crate::symbol::{Keep, Symbol};
-use ir_lexer::Token;
+use crate::stack::{Settled, may_end, settle};
+use ir_lexer::{Kind, Token};
 use ir_types::{List, OutOfMemory};
 use std::alloc::Global;
-
-/// The tokens from a place on.
-fn tokens_from(tokens: &[Token], from: usize) -> &[Token]
-    ensures { result.now ≡ drop from tokens.now }
-{
-    &tokens[from.min(tokens.len())..]
-}
 
 /// The bytes of a token, as far as they lie within the text.
 fn text_at(bytes: &[u8], token: Token) -> &[u8]
@@ -50,18 +46,43 @@ fn is_group(alloc: Global, bytes: &[u8], tokens: &[Token]) -> Result<bool, OutOf
     }
 }
 
-/// Whether a group follows a token, where that counts: only a debug record is told by it.
-fn before_group(
-    alloc: Global,
-    bytes: &[u8],
-    shape: Shape,
-    behind: &[Token],
-) -> Result<bool, OutOfMemory>
-    ensures { IfOk result (λ group. SettleAlike shape group (is_group (texts_of bytes.now behind.now))) }
+/// What a token counts for, where a group comes behind it or not.
+fn told(shape: Shape, group: bool) -> Shape
+    ensures { result ≡ told shape group }
 {
     match shape {
-        Shape::Record => is_group(alloc, bytes, behind),
-        _ => Ok(false),
+        Shape::Record => { if group { Shape::Record } else { Shape::Hash } }
+        _ => shape,
+    }
+}
+
+/// The shape of a token with these behind it: a debug record is told by a group.
+fn shape_before(
+    alloc: Global,
+    bytes: &[u8],
+    kind: Kind,
+    text: &[u8],
+    behind: &[Token],
+) -> Result<Shape, OutOfMemory>
+    ensures { IfOk result (λ shape. shape ≡ shape_before (kind, text.now) (texts_of bytes.now behind.now)) }
+{
+    let shape = shape_of(alloc, kind, text)?;
+    match shape {
+        Shape::Record => {
+            let group = is_group(alloc, bytes, behind)?;
+            Ok(told(Shape::Record, group))
+        }
+        _ => Ok(shape),
+    }
+}
+
+/// A scalar as what a call returns.
+fn returned(shape: Shape) -> Shape
+    ensures { result ≡ returned shape }
+{
+    match shape {
+        Shape::Scalar(ty) => Shape::Returned(ty),
+        _ => shape,
     }
 }
 
@@ -77,46 +98,71 @@ fn add<'a>(
     let shape = match keep {
         Keep::Drops => return Ok(()),
         Keep::Keeps => shape,
-        Keep::As(other) => other,
+        Keep::AsResult => Shape::Result,
+        Keep::AsAddress => Shape::Address,
+        Keep::AsReturned => returned(shape),
     };
     kept.push(Lexeme { shape, text })?;
     Ok(())
 }
 
-/// Walks over tokens by the grammar, from a place on: which of them the symbol takes, and what is
-/// kept of these. The place is counted in tokens; behind their end nothing is left to take.
+/// The tokens from a place on.
+fn tokens_from(tokens: &[Token], from: usize) -> &[Token]
+    ensures { result.now ≡ drop from tokens.now }
+{
+    &tokens[from.min(tokens.len())..]
+}
+
+/// What is kept of the tokens that the nonterminal takes, and how many they are.
+fn taken<'a>(
+    alloc: Global,
+    bytes: &'a [u8],
+    tokens: &[Token],
+    start: Name,
+) -> Result<Option<(Vec<Lexeme<'a>>, usize)>, OutOfMemory>
+    ensures spelled { IfOk result (λ found. walk (item.One start ∷ []) (texts_of bytes.now tokens.now) ≡ option_map (λ f. (seen f.0.items, f.1)) found) }
+    ensures within { IfOk result (λ found. IfSome found (λ f. f.1 ≤ length tokens.now)) }
+{
+    let mut kept = Vec::new(alloc);
+    let mut stack = List::new(alloc);
+    stack.push(Item::One(start))?;
+    for (at, token) in tokens.iter().enumerate() {
+        let text = text_at(bytes, *token);
+        let shape = shape_before(alloc, bytes, token.kind, text, &tokens[at + 1..])?;
+        match settle(&mut stack, shape)? {
+            Settled::Taken(keep) => add(&mut kept, keep, shape, text)?,
+            Settled::AllLeft => return Ok(Some((kept, at))),
+            Settled::Refused => return Ok(None),
+        }
+    }
+    if may_end(stack.as_slice()) {
+        Ok(Some((kept, tokens.len())))
+    } else {
+        Ok(None)
+    }
+}
+
+/// Reads what a nonterminal of the grammar derives at a place among tokens, counted in tokens; behind
+/// their end nothing is left to read. The grammar is that of the subset, in the terms of the LLVM
+/// Language Reference Manual.
 ///
 /// It gives the tokens that are kept, each with what counts of it, and the place of the first token
-/// that is not taken. `None` comes where a token can't stand where it does, by the grammar that the
-/// LLVM Language Reference Manual gives for modules of the subset, or where the tokens end too soon.
-/// `OutOfMemory` comes where the allocator refuses memory.
-pub fn walk<'a>(
+/// behind them. `None` comes where the nonterminal derives none of the first tokens: one can't stand where
+/// it does, or the tokens end too soon. `OutOfMemory` comes where the allocator refuses memory.
+pub fn read_nonterminal<'a>(
     alloc: Global,
     bytes: &'a [u8],
     tokens: &[Token],
     from: usize,
-    start: Symbol,
+    start: Name,
 ) -> Result<Option<(Vec<Lexeme<'a>>, usize)>, OutOfMemory>
-    ensures spelled { IfOk result (λ found. walk (start ∷ []) (texts_of bytes.now (drop from tokens.now)) ≡ option_map (λ f. (seen f.0.items, f.1 - from)) found) }
+    ensures derived { IfOk result (λ found. IfSome found (λ f. IsDerived start (texts_of bytes.now (drop from tokens.now)) (seen f.0.items) (f.1 - from))) }
+    ensures refused { IfOk result (λ found. IfNone found (IsNotDerived start (texts_of bytes.now (drop from tokens.now)))) }
     ensures after { IfOk result (λ found. IfSome found (λ f. from ≤ f.1)) }
     ensures within { IfOk result (λ found. IfSome found (λ f. from ≤ length tokens.now → f.1 ≤ length tokens.now)) }
 {
-    let left = tokens_from(tokens, from);
-    let mut kept = Vec::new(alloc);
-    let mut stack = List::new(alloc);
-    stack.push(start)?;
-    for (at, token) in left.iter().enumerate() {
-        let text = text_at(bytes, *token);
-        let shape = shape_of(alloc, token.kind, text)?;
-        let group = before_group(alloc, bytes, shape, &left[at + 1..])?;
-        match settle(&mut stack, shape, group)? {
-            Settled::Taken(keep) => add(&mut kept, keep, shape, text)?,
-            Settled::AllLeft => return Ok(Some((kept, from + at))),
-            Settled::Refused => return Ok(None),
-        }
-    }
-    match settle(&mut stack, Shape::End, false)? {
-        Settled::AllLeft => Ok(Some((kept, from + left.len()))),
-        _ => Ok(None),
+    match taken(alloc, bytes, tokens_from(tokens, from), start)? {
+        Some((kept, count)) => Ok(Some((kept, from + count))),
+        None => Ok(None),
     }
 }

@@ -11,7 +11,7 @@ use Rattle.ir_lexer.specs.declared.class.Class.TheVariants as classes
 use Rattle.ir_lexer.specs.Signs.{is_blank, begins_word, begins_name, is_name_byte, is_meta_byte, is_mark}
 use Rattle.ir_lexer.specs.Spelled.{headed, after, is_quoted, is_run, is_name, is_decimal, is_integer, has, is_label, is_word, is_one_mark, is_spelled}
 use Rattle.ir_lexer.specs.Written.{is_end, IsEnd, MayFollow}
-use Rattle.ir_lexer.specs.Front.{class_of, with_sign, behind, quoted_len, name_len, integer_len, c_string_len, is_labelled, sized, quoted, lettered, numbered, front_of, front}
+use Rattle.ir_lexer.specs.Mirrors.Front.{class_of, with_sign, behind, quoted_len, name_len, integer_len, c_string_len, is_labelled, sized, quoted, lettered, numbered, front_of, front}
 use Rattle.ir_lexer.proofs.Runs.{by_test}
 use Rattle.ir_lexer.proofs.Lengths.{Measures, quoted_measures, quoted_only, with_sign_of, run_measures, headed_first}
 use Rattle.ir_lexer.proofs.Names.{name_measures, name_quoted, name_plain, name_decimal, integer_signed, integer_plain, minus_is_name, quote_is_no_digit, minus_is_no_digit, quoted_first, decimal_first, run_first, name_from_begin, name_from_digit, begin_from_word, digit_begins_no_name, digit_is_no, has_tells, has_from, IsLabelOf, label_tells}

@@ -11,7 +11,7 @@ use Rattle.ir_lexer.specs.declared.class.Class.{Class}
 use Rattle.ir_lexer.specs.declared.class.Class.TheVariants as classes
 use Rattle.ir_lexer.specs.Signs.{begins_word, begins_name, is_name_byte, is_meta_byte, is_mark}
 use Rattle.ir_lexer.specs.Spelled.{after, is_quoted, is_run, is_name, is_decimal, is_integer, has, is_label, is_word, is_one_mark, is_spelled}
-use Rattle.ir_lexer.specs.Front.{class_of, with_sign, behind, quoted_len, name_len, integer_len, c_string_len, is_labelled, sized, quoted, lettered, numbered, front_of, front}
+use Rattle.ir_lexer.specs.Mirrors.Front.{class_of, with_sign, behind, quoted_len, name_len, integer_len, c_string_len, is_labelled, sized, quoted, lettered, numbered, front_of, front}
 use Rattle.ir_lexer.proofs.Runs.{by_test, run_passes, run_most}
 use Rattle.ir_lexer.proofs.Lengths.{Measures, quoted_measures, quoted_only, with_sign_of, with_sign_some, c_string_measures, run_measures, begun, headed_first, headed_most, behind_measures}
 use Rattle.ir_lexer.proofs.Names.{name_measures, integer_measures, integer_first, integer_in_run, quoted_first, run_first, name_from_begin, name_from_digit, begin_from_word, digit_begins_no_word, has_tells, IsLabelOf, label_tells, label_from, run_to_colon}

@@ -6,7 +6,7 @@ use Rattle.std.specs.List.{prefix_len}
 use Rattle.std.specs.Char.{is_ascii_digit}
 use Rattle.ir_lexer.specs.Signs.{is_name_byte, is_no_quote}
 use Rattle.ir_lexer.specs.Spelled.{headed, after, closes, is_quoted, is_decimal, is_run}
-use Rattle.ir_lexer.specs.Front.{with_sign, behind, closing_len, quoted_len, c_string_len}
+use Rattle.ir_lexer.specs.Mirrors.Front.{with_sign, behind, closing_len, quoted_len, c_string_len}
 use Rattle.ir_lexer.proofs.Runs.{by_test, run_passes, run_most}
 
 -- len says how long the longest front is that passes the test, and is 0 where none does

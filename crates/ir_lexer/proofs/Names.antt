@@ -7,7 +7,7 @@ use Rattle.std.specs.List.{prefix_len}
 use Rattle.std.specs.Char.{is_ascii_digit}
 use Rattle.ir_lexer.specs.Signs.{begins_word, begins_name, is_name_byte}
 use Rattle.ir_lexer.specs.Spelled.{headed, after, is_quoted, is_decimal, is_run, is_name, is_integer, has, is_label}
-use Rattle.ir_lexer.specs.Front.{behind, quoted_len, name_len, integer_len, is_labelled}
+use Rattle.ir_lexer.specs.Mirrors.Front.{behind, quoted_len, name_len, integer_len, is_labelled}
 use Rattle.ir_lexer.proofs.Runs.{by_test, run_rest}
 use Rattle.ir_lexer.proofs.Lengths.{Measures, quoted_measures, run_measures, decimal_measures, signed_integer_measures, begun, headed_first, headed_most}
 

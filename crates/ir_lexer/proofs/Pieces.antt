@@ -7,7 +7,7 @@ use Rattle.ir_lexer.specs.declared.token.Kind.{Kind}
 use Rattle.ir_lexer.specs.declared.class.Class.TheVariants as classes
 use Rattle.ir_lexer.specs.Signs.{is_blank, begins_word, is_mark, is_no_line_feed}
 use Rattle.ir_lexer.specs.Tokens.{IsBlank, IsComment, IsLongest, NothingBegins, Piece, Blank, Comment, Lexeme, len_of, BeginsWith}
-use Rattle.ir_lexer.specs.Front.{class_of, front, front_of}
+use Rattle.ir_lexer.specs.Mirrors.Front.{class_of, front, front_of}
 use Rattle.ir_lexer.proofs.Runs.{run_passes, run_most}
 use Rattle.ir_lexer.proofs.Fronts.{IsFound, Found, Reach, found, reach}
 

@@ -7,7 +7,7 @@ use Rattle.ir_lexer.specs.declared.token.Kind.TheVariants as kinds
 use Rattle.ir_lexer.specs.declared.token.Token.{Token}
 use Rattle.ir_lexer.specs.Signs.{is_blank, is_name_byte, is_no_line_feed}
 use Rattle.ir_lexer.specs.Tokens.{NothingBegins, Piece, Blank, Comment, Lexeme, len_of, BeginsWith, tokens_of, IsBadByte}
-use Rattle.ir_lexer.specs.Front.{front, gap_len, is_labelled}
+use Rattle.ir_lexer.specs.Mirrors.Front.{front, gap_len, is_labelled}
 use Rattle.ir_lexer.proofs.Runs.{by_test}
 use Rattle.ir_lexer.proofs.Lengths.{run_measures}
 use Rattle.ir_lexer.proofs.Names.{integer_measures, integer_in_run, labelled_inside, label_from, has_tells}

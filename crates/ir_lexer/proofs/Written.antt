@@ -7,7 +7,7 @@ use Rattle.ir_lexer.specs.Signs.{is_blank}
 use Rattle.ir_lexer.specs.Spelled.{is_spelled}
 use Rattle.ir_lexer.specs.Tokens.{IsLongest, Piece, Blank, Comment, Lexeme, len_of, BeginsWith, Tiles, tokens_of, Tokens, text_of, texts_of}
 use Rattle.ir_lexer.specs.Written.{Part, Space, Spelling, bytes_of, spellings_of, MayFollow, IsReadable}
-use Rattle.ir_lexer.specs.Front.{front}
+use Rattle.ir_lexer.specs.Mirrors.Front.{front}
 use Rattle.ir_lexer.proofs.Pieces.{found_longest}
 use Rattle.ir_lexer.proofs.Ends.{stays}
 

@@ -1,7 +1,7 @@
 //! Bytes by what they may stand in.
 ghost use Rattle.std.specs.Prelude.{◌≡◌};
 ghost use Rattle.ir_lexer.specs.Signs.{is_blank, begins_word, begins_name, is_name_byte, is_meta_byte, is_mark};
-ghost use Rattle.ir_lexer.specs.Front.{class_of};
+ghost use Rattle.ir_lexer.specs.Mirrors.Front.{class_of};
 
 /// What the first byte of a token says of it.
 #[derive(Clone, Copy, Debug, PartialEq, Eq)]
@@ -73,7 +73,7 @@ fn is_mark(b: u8) -> bool
         || b == b'^'
 }
 
-#[tactic(auto, unfolding(crate::specs::Front::class_of))]
+#[tactic(auto, unfolding(crate::specs::Mirrors::Front::class_of))]
 pub fn class_of(b: u8) -> Class
     ensures { result ≡ class_of b }
 {

@@ -4,7 +4,7 @@ ghost use Rattle.std.specs.List.{prefix_len};
 ghost use Rattle.std.specs.Char.{is_ascii_digit};
 ghost use Rattle.ir_lexer.specs.Signs.{is_name_byte, is_meta_byte, is_no_quote, is_no_line_feed};
 ghost use Rattle.ir_lexer.specs.Spelled.{has};
-ghost use Rattle.ir_lexer.specs.Front.{closing_len, quoted_len, name_len, integer_len, c_string_len, gap_len, is_labelled, quoted, lettered, numbered, front, with_sign, sized};
+ghost use Rattle.ir_lexer.specs.Mirrors.Front.{closing_len, quoted_len, name_len, integer_len, c_string_len, gap_len, is_labelled, quoted, lettered, numbered, front, with_sign, sized};
 
 use crate::class::{Class, begins_name, class_of, is_blank, is_meta_byte, is_name_byte};
 use crate::token::Kind;
@@ -69,7 +69,7 @@ fn has(bytes: &[u8], at: usize, byte: u8) -> bool
 }
 
 /// How many bytes there are up to the first quote, with it, or 0 where there is none.
-#[tactic(auto, unfolding(crate::specs::Front::closing_len))]
+#[tactic(auto, unfolding(crate::specs::Mirrors::Front::closing_len))]
 fn closing_len(bytes: &[u8]) -> usize
     ensures exact { result ≡ closing_len bytes.now }
     ensures within { result ≤ length bytes.now }
@@ -79,7 +79,7 @@ fn closing_len(bytes: &[u8]) -> usize
 }
 
 /// How long the quoted string at the front is, or 0 where none begins here.
-#[tactic(auto, unfolding(crate::specs::Front::quoted_len))]
+#[tactic(auto, unfolding(crate::specs::Mirrors::Front::quoted_len))]
 fn quoted_len(bytes: &[u8]) -> usize
     ensures exact { result ≡ quoted_len bytes.now }
     ensures within { result ≤ length bytes.now }
@@ -97,7 +97,7 @@ fn quoted_len(bytes: &[u8]) -> usize
 }
 
 /// How long the name at the front is, or 0 where none begins here.
-#[tactic(auto, unfolding(crate::specs::Front::name_len))]
+#[tactic(auto, unfolding(crate::specs::Mirrors::Front::name_len))]
 fn name_len(bytes: &[u8]) -> usize
     ensures exact { result ≡ name_len bytes.now }
     ensures within { result ≤ length bytes.now }
@@ -117,7 +117,7 @@ fn name_len(bytes: &[u8]) -> usize
 }
 
 /// How long the integer at the front is, or 0 where none begins here.
-#[tactic(auto, unfolding(crate::specs::Front::integer_len))]
+#[tactic(auto, unfolding(crate::specs::Mirrors::Front::integer_len))]
 fn integer_len(bytes: &[u8]) -> usize
     ensures exact { result ≡ integer_len bytes.now }
     ensures within { result ≤ length bytes.now }
@@ -135,7 +135,7 @@ fn integer_len(bytes: &[u8]) -> usize
 }
 
 /// How long the string with `c` before it is, or 0 where none begins here.
-#[tactic(auto, unfolding(crate::specs::Front::c_string_len))]
+#[tactic(auto, unfolding(crate::specs::Mirrors::Front::c_string_len))]
 fn c_string_len(bytes: &[u8]) -> usize
     ensures exact { result ≡ c_string_len bytes.now }
     ensures within { result ≤ length bytes.now }
@@ -153,7 +153,7 @@ fn c_string_len(bytes: &[u8]) -> usize
 }
 
 /// How long the blank or the comment at the front is, or 0 where neither begins here.
-#[tactic(auto, unfolding(crate::specs::Front::gap_len))]
+#[tactic(auto, unfolding(crate::specs::Mirrors::Front::gap_len))]
 pub fn gap_len(bytes: &[u8]) -> usize
     ensures exact { result ≡ gap_len bytes.now }
     ensures within { result ≤ length bytes.now }
@@ -180,7 +180,7 @@ fn sized(kind: Kind, len: usize) -> Option<(Kind, usize)>
 }
 
 /// A string, or a label that is one.
-#[tactic(auto, unfolding(crate::specs::Front::quoted))]
+#[tactic(auto, unfolding(crate::specs::Mirrors::Front::quoted))]
 fn quoted(rest: &[u8]) -> Option<(Kind, usize)>
     ensures { result ≡ quoted rest.now }
 {
@@ -195,7 +195,7 @@ fn quoted(rest: &[u8]) -> Option<(Kind, usize)>
 }
 
 /// A label, a word, or a string with `c` before it.
-#[tactic(auto, unfolding(crate::specs::Front::lettered, crate::specs::Front::is_labelled))]
+#[tactic(auto, unfolding(crate::specs::Mirrors::Front::lettered, crate::specs::Mirrors::Front::is_labelled))]
 fn lettered(rest: &[u8]) -> Option<(Kind, usize)>
     ensures { result ≡ lettered rest.now }
 {
@@ -213,7 +213,7 @@ fn lettered(rest: &[u8]) -> Option<(Kind, usize)>
 
 /// A label or an integer. Inside a run of bytes of names that is known to have no colon behind it no
 /// label is looked for, so that a run is gone over once, however many integers it holds.
-#[tactic(auto, unfolding(crate::specs::Front::numbered, crate::specs::Front::is_labelled))]
+#[tactic(auto, unfolding(crate::specs::Mirrors::Front::numbered, crate::specs::Mirrors::Front::is_labelled))]
 fn numbered(rest: &[u8], inside: bool) -> Option<(Kind, usize)>
     requires { IsTrue inside → IsFalse (is_labelled rest.now) }
     ensures { result ≡ numbered rest.now }

@@ -1,5 +1,5 @@
 use Rattle.std.proofs.Common.{◌≡◌, ◌-◌, true, false, length, drop}
-use Rattle.ir_lexer.specs.Front.{is_labelled}
+use Rattle.ir_lexer.specs.Mirrors.Front.{is_labelled}
 use Rattle.ir_lexer.proofs.Tilings.{LexedTo}
 use Rattle.ir_lexer.proofs.lexing.read_tokens.Given as goal
 

@@ -1,9 +1,0 @@
-use Rattle.std.proofs.Common.{◌≡◌, [], ◌∷◌, drop, reverse}
-use Rattle.ir_lexer.specs.Tokens.{texts_of}
-use Rattle.ir_grammar.specs.Walk.{walk, seen}
-use Rattle.ir_grammar.proofs.Steps.{behind}
-use Rattle.ir_grammar.proofs.walking.walk.Given as goal
-
-abbrev pub invariant-loop-at : goal.invariant-loop-at
-invariant-loop-at l =
-    walk (l.fn.start ∷ []) (texts_of l.bytes l.left) ≡ behind (seen l.kept.items) l.at (walk (reverse l.stack) (texts_of l.bytes (drop l.at l.left)))
