@@ -6,12 +6,12 @@ use Rattle.ir_syntax.specs.declared.body.Phi.{Phi}
 use Rattle.ir_syntax.specs.declared.body.Inst.{Inst}
 use Rattle.ir_syntax.specs.declared.body.Term.{Term}
 use Rattle.ir_grammar.specs.declared.shape.Shape.{Shape}
-use Rattle.ir_grammar.specs.Walk.{Kept}
+use Rattle.ir_grammar.specs.Tokens.{Kept}
 use Rattle.ir_scope.specs.Runs.{Reading, runs, begins_with}
 use Rattle.ir_body.specs.declared.blocks.Builder.{Builder}
 use Rattle.ir_body.specs.Lines.{Line}
 use Rattle.ir_body.specs.Bodies.{blocks_from}
-use Rattle.ir_body.specs.Building.{built, as_blocks}
+use Rattle.ir_body.specs.Mirrors.Building.{built, as_blocks}
 use Rattle.ir_operands.proofs.Runs.{run_step, run_stop, run_bad}
 
 -- what is built, and then the lines that are left

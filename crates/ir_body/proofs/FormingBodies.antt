@@ -9,7 +9,7 @@ use Rattle.ir_syntax.specs.declared.body.Phi.{Phi}
 use Rattle.ir_syntax.specs.declared.item.Item.{Item}
 use Rattle.ir_syntax.specs.Results.{results, count}
 use Rattle.ir_syntax.specs.FormedBody.{Places, FormedPhi, FormedInst, FormedBlock, FormedBody, item_name}
-use Rattle.ir_grammar.specs.Walk.{Kept}
+use Rattle.ir_grammar.specs.Tokens.{Kept}
 use Rattle.ir_scope.specs.Scopes.{Env}
 use Rattle.ir_scope.specs.Types.{is_close_brace}
 use Rattle.ir_locals.specs.Locals.{locals_of, are_locals}

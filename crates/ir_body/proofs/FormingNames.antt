@@ -14,7 +14,7 @@ use Rattle.ir_syntax.specs.declared.item.Item.{Item}
 use Rattle.ir_syntax.specs.FormedBody.{Places, IsOperand, item_name}
 use Rattle.ir_syntax.specs.Suits.{Suits}
 use Rattle.ir_grammar.specs.declared.shape.Shape.TheVariants as is
-use Rattle.ir_grammar.specs.Walk.{Kept}
+use Rattle.ir_grammar.specs.Tokens.{Kept}
 use Rattle.ir_scope.specs.Scopes.{Env}
 use Rattle.ir_constants.specs.Constants.{constant_at}
 use Rattle.ir_locals.specs.declared.local.Local.{Local}

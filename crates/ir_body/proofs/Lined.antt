@@ -3,12 +3,12 @@ use Rattle.std.proofs.Common.{◌≡◌, ◌∙◌, ℕ, ◌+◌, ◌≤◌, IfS
 use Rattle.ir_types.specs.declared.memory.OutOfMemory.{OutOfMemory}
 use Rattle.ir_grammar.specs.declared.shape.Shape.{Shape}
 use Rattle.ir_grammar.specs.declared.shape.Shape.TheVariants as is
-use Rattle.ir_grammar.specs.Walk.{Kept}
+use Rattle.ir_grammar.specs.Tokens.{Kept}
 use Rattle.ir_body.specs.declared.lines.Line.{Line as SeenLine}
-use Rattle.ir_body.specs.Naming.{lines_seen}
+use Rattle.ir_body.specs.Mirrors.Naming.{lines_seen}
 use Rattle.ir_operands.specs.Operands.{Names}
 use Rattle.ir_body.specs.Lines.{Line, line_at}
-use Rattle.ir_body.specs.Shaped.{plain_line_at, shaped_line_at, named_line_at, first_shape}
+use Rattle.ir_body.specs.Mirrors.Shaped.{plain_line_at, shaped_line_at, named_line_at, first_shape}
 
 pub same_lines : (r : Result (Option (SeenLine × ℕ)) OutOfMemory) (a b : Option (Line × ℕ)) → a ≡ b → IfOk r (λ found. lines_seen found ≡ a) → IfOk r (λ found. lines_seen found ≡ b)
 same_lines (Ok found) a b e h = h ∙ e

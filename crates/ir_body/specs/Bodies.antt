@@ -7,8 +7,9 @@ use Rattle.ir_syntax.specs.declared.body.Block.{Block}
 use Rattle.ir_syntax.specs.declared.body.Inst.{Inst}
 use Rattle.ir_syntax.specs.declared.body.Phi.{Phi}
 use Rattle.ir_syntax.specs.Results.{count, results}
-use Rattle.ir_grammar.specs.declared.symbol.Symbol.TheVariants as sym
-use Rattle.ir_grammar.specs.Walk.{Kept, Piece, walk}
+use Rattle.ir_grammar.specs.declared.grammar.Name.TheVariants as the
+use Rattle.ir_grammar.specs.Tokens.{Kept, Piece}
+use Rattle.ir_grammar.specs.Derives.{IsDerived, IsNotDerived}
 use Rattle.ir_scope.specs.Runs.{Reading, runs, closed_by}
 use Rattle.ir_scope.specs.Scopes.{Env}
 use Rattle.ir_scope.specs.Types.{is_close_brace}
@@ -64,12 +65,16 @@ body_with env locals ks =
 abbrev pub body_at : Env → List (List ℕ) → List Kept → Option Body
 body_at env params ks = body_with env (locals_of params (behind_brace ks)) (behind_brace ks)
 
--- what is kept of the body that the first tokens spell, and how many they are
-abbrev pub spelled_body : List Piece → Option (List Kept × ℕ)
-spelled_body pieces = walk (sym.Body ∷ []) pieces
+-- So many of the first tokens are a body by the grammar, and this is kept of them.
+abbrev pub IsBodyOf : List Piece → List Kept → ℕ → Type 0
+IsBodyOf pieces kept taken = IsDerived the.Body pieces kept taken
+
+-- The first tokens are no body by the grammar.
+abbrev pub IsNoBody : List Piece → Type 0
+IsNoBody pieces = IsNotDerived the.Body pieces
 
 -- So many of the tokens spell the body.
 pub record SpellsBody (env : Env) (params : List (List ℕ)) (pieces : List Piece) (body : Body) (taken : ℕ) : Type 0 where
   pub kept : List Kept
-  pub spelled : spelled_body pieces ≡ Some (kept, taken)
+  pub spelled : IsBodyOf pieces kept taken
   pub resolved : body_at env params kept ≡ Some body

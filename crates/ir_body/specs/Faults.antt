@@ -1,7 +1,7 @@
 -- Why no body is read.
 use Rattle.std.specs.Prelude.{ℕ, List}
 use Rattle.ir_syntax.specs.declared.body.Body.{Body}
-use Rattle.ir_grammar.specs.Walk.{Piece}
+use Rattle.ir_grammar.specs.Tokens.{Piece}
 use Rattle.ir_scope.specs.Scopes.{Env}
 use Rattle.ir_body.specs.declared.reading.BodyFault.{BodyFault}
 use Rattle.ir_body.specs.declared.reading.BodyFault.TheVariants.{NotInSubset, OutOfMemory}

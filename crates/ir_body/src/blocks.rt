@@ -1,14 +1,14 @@
 //! From lines to blocks.
 ghost use Rattle.std.specs.Prelude.{◌≡◌, ◌∷◌, [], ◌++◌, ◌≤◌, List as ListOf, length, nat_le, min, sum, map, IfOk, IfSome, OnOk};
 ghost use Rattle.ir_syntax.specs.Results.{block_count};
-ghost use Rattle.ir_grammar.specs.Walk.{seen};
+ghost use Rattle.ir_grammar.specs.Tokens.{seen};
 ghost use Rattle.ir_scope.specs.Runs.{runs};
 ghost use Rattle.ir_body.specs.Lines.{Line as LineValue, line_at};
 ghost use Rattle.ir_body.specs.Bodies.{bounded, is_body};
-ghost use Rattle.ir_operands.specs.Naming.{naming};
-ghost use Rattle.ir_body.specs.Naming.{line_of};
-ghost use Rattle.ir_body.specs.Shaped.{begins_line};
-ghost use Rattle.ir_body.specs.Building.{built, as_blocks, lined_body_at};
+ghost use Rattle.ir_operands.specs.Mirrors.Naming.{naming};
+ghost use Rattle.ir_body.specs.Mirrors.Naming.{line_of};
+ghost use Rattle.ir_body.specs.Mirrors.Shaped.{begins_line};
+ghost use Rattle.ir_body.specs.Mirrors.Building.{built, as_blocks, lined_body_at};
 
 use crate::counting::is_counted;
 use crate::lines::{Line, begins_line, closes_brace, read_line};

@@ -1,9 +1,9 @@
 //! Results and blocks, counted in what is kept.
 ghost use Rattle.std.specs.Prelude.{◌≡◌, ◌≤◌, length, nat_eq};
-ghost use Rattle.ir_grammar.specs.Walk.{seen};
+ghost use Rattle.ir_grammar.specs.Tokens.{seen};
 ghost use Rattle.ir_locals.specs.Locals.{has_result, is_label, begins_labelled};
 ghost use Rattle.ir_body.specs.Bodies.{results_in, blocks_in, is_counted};
-ghost use Rattle.ir_body.specs.Naming.{labels_in};
+ghost use Rattle.ir_body.specs.Mirrors.Naming.{labels_in};
 ghost use Rattle.ir_syntax.specs.Results.{results};
 
 use ir_grammar::{Lexeme, Shape};

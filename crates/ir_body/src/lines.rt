@@ -1,12 +1,12 @@
 //! The lines of a body: labels, phis, instructions and terminators.
 ghost use Rattle.std.specs.Prelude.{◌≡◌, ◌+◌, ◌≤◌, length, IfOk, IfSome};
-ghost use Rattle.ir_grammar.specs.Walk.{seen};
+ghost use Rattle.ir_grammar.specs.Tokens.{seen};
 ghost use Rattle.ir_scope.specs.Runs.{begins_with};
 ghost use Rattle.ir_scope.specs.Types.{is_close_brace};
-ghost use Rattle.ir_operands.specs.Naming.{naming};
-ghost use Rattle.ir_body.specs.Naming.{line_of, lines_seen};
+ghost use Rattle.ir_operands.specs.Mirrors.Naming.{naming};
+ghost use Rattle.ir_body.specs.Mirrors.Naming.{line_of, lines_seen};
 ghost use Rattle.ir_body.specs.Lines.{inst_line, dropped_or, term_line, verb_at, line_at};
-ghost use Rattle.ir_body.specs.Shaped.{begins_line, call_line, phi_line, named_line_at, plain_line_at, shaped_line_at, first_shape};
+ghost use Rattle.ir_body.specs.Mirrors.Shaped.{begins_line, call_line, phi_line, named_line_at, plain_line_at, shaped_line_at, first_shape};
 
 use ir_calls::call;
 use ir_grammar::{Lexeme, Shape};

@@ -1,13 +1,13 @@
 //! Bodies from tokens.
-ghost use Rattle.std.specs.Prelude.{◌≡◌, ◌+◌, ◌-◌, ◌≤◌, drop, length, option_map, IfOk, IfErr};
+ghost use Rattle.std.specs.Prelude.{◌≡◌, ◌-◌, ◌≤◌, List, drop, length, IfOk, IfErr, IfSome, IfNone};
 ghost use Rattle.ir_lexer.specs.Tokens.{texts_of};
-ghost use Rattle.ir_grammar.specs.Walk.{seen};
+ghost use Rattle.ir_grammar.specs.Tokens.{Kept, seen};
 ghost use Rattle.ir_scope.specs.Scopes.{env_of};
-ghost use Rattle.ir_body.specs.Bodies.{behind_brace, body_at, spelled_body, SpellsBody};
+ghost use Rattle.ir_body.specs.Bodies.{behind_brace, body_at, IsBodyOf, IsNoBody, SpellsBody};
 ghost use Rattle.ir_body.specs.Faults.{IsBodyCause};
 
 use crate::blocks::lined_body;
-use ir_grammar::{Lexeme, Symbol, walk};
+use ir_grammar::{Lexeme, Name, one_derivation, read_nonterminal};
 use ir_lexer::Token;
 use ir_locals::Locals;
 use ir_operands::Names;
@@ -85,7 +85,8 @@ pub fn read_body(
     ensures read { IfOk result (λ f. SpellsBody (env_of scope.now) names.now (texts_of bytes.now (drop from tokens.now)) f.0 (f.1 - from) × (from ≤ f.1)) }
     ensures refused { IfErr result (λ fault. IsBodyCause (env_of scope.now) names.now (texts_of bytes.now (drop from tokens.now)) fault) }
 {
-    let (kept, place) = match walk(alloc, bytes, tokens, from, Symbol::Body) {
+    one_derivation();
+    let (kept, place) = match read_nonterminal(alloc, bytes, tokens, from, Name::Body) {
         Ok(Some(found)) => found,
         Ok(None) => return Err(BodyFault::NotInSubset),
         Err(OutOfMemory) => return Err(BodyFault::OutOfMemory),
@@ -105,9 +106,10 @@ pub fn skip_body(
     tokens: &[Token],
     from: usize,
 ) -> Result<Option<usize>, OutOfMemory>
-    ensures { IfOk result (λ place. place ≡ option_map (λ f. from + f.1) (spelled_body (texts_of bytes.now (drop from tokens.now)))) }
+    ensures found { IfOk result (λ place. IfSome place (λ p. (from ≤ p) × ((kept : List Kept) × IsBodyOf (texts_of bytes.now (drop from tokens.now)) kept (p - from)))) }
+    ensures none { IfOk result (λ place. IfNone place (IsNoBody (texts_of bytes.now (drop from tokens.now)))) }
 {
-    match walk(alloc, bytes, tokens, from, Symbol::Body)? {
+    match read_nonterminal(alloc, bytes, tokens, from, Name::Body)? {
         Some((_, place)) => Ok(Some(place)),
         None => Ok(None),
     }

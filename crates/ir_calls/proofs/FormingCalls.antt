@@ -10,6 +10,8 @@ use Rattle.ir_types.specs.declared.scalar.Scalar.{Scalar}
 use Rattle.ir_types.specs.declared.scalar.Scalar.TheVariants.{I1, I8, I16, I32, I64, Ptr}
 use Rattle.ir_types.specs.declared.scalar.Ext.{Ext}
 use Rattle.ir_types.specs.declared.scalar.FnType.{FnType}
+use Rattle.ir_types.specs.Names.{is_name}
+use Rattle.ir_lexer.specs.Texts.{name_of}
 use Rattle.ir_syntax.specs.declared.constant.Const.{Const, out-Const}
 use Rattle.ir_syntax.specs.declared.constant.Const.TheOpen.{Const-F}
 use Rattle.ir_syntax.specs.declared.constant.Const.TheBlock.{Int}
@@ -24,14 +26,14 @@ use Rattle.ir_syntax.specs.declared.item.Item.{Item}
 use Rattle.ir_syntax.specs.FormedBody.{Places, IsOperand, EndsInFalse, FormedCall, FormedInst, is_intrinsic, is_intrinsic_item, is_intrinsic_address, names_intrinsic, item_name}
 use Rattle.ir_grammar.specs.declared.shape.Shape.TheVariants as is
 use Rattle.ir_grammar.specs.declared.shape.AtName.TheVariants as at
-use Rattle.ir_grammar.specs.Walk.{Kept}
+use Rattle.ir_grammar.specs.Tokens.{Kept}
 use Rattle.name_table.specs.Places.{place_among}
 use Rattle.ir_scope.specs.Runs.{Reading, behind}
 use Rattle.ir_scope.specs.Scopes.{is_at, is_intrinsic_place}
 use Rattle.ir_constants.specs.Constants.{is_close_paren}
 use Rattle.ir_operands.specs.Operands.{Names, operand_at}
 use Rattle.ir_operands.specs.Marks.{ext_at}
-use Rattle.ir_calls.specs.Calls.{whole_at, arg_at, args_at, is_intrinsic_constant, calls_intrinsic, is_zero, is_false, ends_in_false, is_call, call_type, made_call, callee_at, void_callee_at, returning_at, call_at}
+use Rattle.ir_calls.specs.Calls.{whole_at, arg_at, args_at, is_intrinsic_constant, calls_intrinsic, is_zero, is_false, ends_in_false, is_call, call_type, made_call, callee_at, dropped_callee_at, void_callee_at, returning_at, call_at}
 use Rattle.ir_operands.proofs.FormingReadings.{IsRead, read-behind, read-map, read-next, read-run, read-closed}
 use Rattle.ir_operands.proofs.FormingOperands.{Resolves, given-or}
 
@@ -190,9 +192,16 @@ module _ (names : Names) (places : Places) (r : Resolves names places) where
   kept-read None h = tt
   kept-read (Some f) h = h
 
+  dropped-read : (text : List ℕ) → IsRead IsKeptCall (dropped_callee_at text)
+  dropped-read text = cases (is_name (name_of (drop 1 text)))
+    where
+      cases : (b : Bool) → IsRead IsKeptCall (cond b (Some (None, 1)) None)
+      cases true = tt
+      cases false = tt
+
   void-read : (ext : Ext) (whole : Option (List Scalar × Bool)) (ks : List Kept) → IsRead IsKeptCall (void_callee_at names ext whole ks)
   void-read ext whole [] = kept-read (callee_at names ext None whole []) (callee-read ext None whole [])
-  void-read ext whole ((is.At at.Debug, text) ∷ ks) = tt
+  void-read ext whole ((is.At at.Debug, text) ∷ ks) = dropped-read text
   void-read ext whole (k ∷ ks) = kept-read (callee_at names ext None whole (k ∷ ks)) (callee-read ext None whole (k ∷ ks))
 
   -- what follows the whole type, wherever one is read

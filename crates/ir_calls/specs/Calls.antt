@@ -4,6 +4,8 @@ use Rattle.ir_types.specs.declared.scalar.Scalar.{Scalar}
 use Rattle.ir_types.specs.declared.scalar.Scalar.TheVariants.{I1, Ptr}
 use Rattle.ir_types.specs.declared.scalar.Ext.{Ext}
 use Rattle.ir_types.specs.declared.scalar.FnType.{FnType}
+use Rattle.ir_types.specs.Names.{is_name}
+use Rattle.ir_lexer.specs.Texts.{name_of}
 use Rattle.ir_syntax.specs.declared.constant.Const.{Const, out-Const}
 use Rattle.ir_syntax.specs.declared.constant.Const.TheOpen.{Const-F}
 use Rattle.ir_syntax.specs.declared.constant.Operand.{Operand}
@@ -14,7 +16,7 @@ use Rattle.ir_syntax.specs.declared.body.Inst.TheVariants as inst
 use Rattle.ir_grammar.specs.declared.shape.Shape.{Shape}
 use Rattle.ir_grammar.specs.declared.shape.Shape.TheVariants as is
 use Rattle.ir_grammar.specs.declared.shape.AtName.TheVariants as at
-use Rattle.ir_grammar.specs.Walk.{Kept}
+use Rattle.ir_grammar.specs.Tokens.{Kept}
 use Rattle.ir_scope.specs.Runs.{Reading, behind, runs, closed_by}
 use Rattle.ir_scope.specs.Scopes.{is_intrinsic_place}
 use Rattle.ir_constants.specs.Constants.{is_close_paren}
@@ -92,9 +94,13 @@ callee_at names ext returns whole ks =
     option_and_then (λ f. behind f.1 (option_and_then (λ args. option_map (λ i. (i, args.1)) (made_call names (call_type returns whole args.0) ext f.0 args.0)) (args_at names (drop f.1 ks))))
     (operand_at names Ptr ks)
 
+-- the name of a call that is dropped: it keeps the limits on names like every other
+abbrev pub dropped_callee_at : List ℕ → Option (Option Inst × ℕ)
+dropped_callee_at text = if is_name (name_of (drop 1 text)) then Some (None, 1) else None
+
 -- A call of void to a name of debug information is dropped.
 abbrev pub void_callee_at : Names → Ext → Option (List Scalar × Bool) → Reading (Option Inst)
-void_callee_at names ext whole ((is.At at.Debug, text) ∷ ks) = Some (None, 1)
+void_callee_at names ext whole ((is.At at.Debug, text) ∷ ks) = dropped_callee_at text
 void_callee_at names ext whole ks = option_map (λ f. (Some f.0, f.1)) (callee_at names ext None whole ks)
 
 -- behind the word: attributes, what is returned, the whole type where it is written, the callee and the arguments

@@ -1,18 +1,21 @@
 //! Calls.
 ghost use Rattle.std.specs.Prelude.{◌≡◌, ◌+◌, ◌≤◌, length, drop, option_map, IfOk, IfSome};
 ghost use Rattle.ir_types.specs.declared.scalar.Scalar.TheVariants.{Ptr};
-ghost use Rattle.ir_grammar.specs.Walk.{seen};
+ghost use Rattle.ir_types.specs.Names.{is_name};
+ghost use Rattle.ir_lexer.specs.Texts.{name_of};
+ghost use Rattle.ir_grammar.specs.Tokens.{seen};
 ghost use Rattle.ir_scope.specs.Runs.{runs, begins_with};
-ghost use Rattle.ir_operands.specs.Naming.{naming};
-ghost use Rattle.ir_calls.specs.Shaped.{begins_arg, arg_types, plain_callee_at, returning_value_at, returning_void_at};
+ghost use Rattle.ir_operands.specs.Mirrors.Naming.{naming};
+ghost use Rattle.ir_calls.specs.Mirrors.Shaped.{begins_arg, arg_types, plain_callee_at, returning_value_at, returning_void_at};
 ghost use Rattle.ir_operands.specs.Marks.{is_scalar, scalar_at};
-ghost use Rattle.ir_calls.specs.Calls.{types_at, whole_at, arg_at, args_at, calls_intrinsic, is_false, ends_in_false, is_call, call_type, made_call, callee_at, void_callee_at, returning_at, call_at};
+ghost use Rattle.ir_calls.specs.Calls.{types_at, whole_at, arg_at, args_at, calls_intrinsic, is_false, ends_in_false, is_call, call_type, made_call, callee_at, dropped_callee_at, void_callee_at, returning_at, call_at};
 
 use ir_grammar::{AtName, Lexeme, Shape};
+use ir_lexer::{Kind, Token, decode, undecoded};
 use ir_operands::{Names, after, begins_scalar, closes_paren, dots, ext, operand, scalar};
 use ir_scope::Scope;
 use ir_syntax::{Arg, Const, Inst, Operand};
-use ir_types::{Ext, FnType, List, OutOfMemory, Scalar};
+use ir_types::{Ext, FnType, List, OutOfMemory, Scalar, is_name};
 use std::alloc::Global;
 
 /// The most parameters of a function, and the most arguments of a call.
@@ -196,7 +199,7 @@ fn ends_in_false(args: &[Arg]) -> bool
     }
 }
 
-#[tactic(auto, unfolding(ir_operands::specs::Naming::naming))]
+#[tactic(auto, unfolding(ir_operands::specs::Mirrors::Naming::naming))]
 /// Whether a call is one: it has at most 32 parameters and arguments, and a copy or fill of memory isn't volatile.
 fn is_call(names: &Names, fn_ty: &FnType, callee: &Operand, args: &[Arg]) -> bool
     ensures { result ≡ is_call (naming names.now) fn_ty.now callee.now args.now }
@@ -302,7 +305,37 @@ fn plain_callee(
     }
 }
 
-/// The same. A call of a name of debug information is dropped.
+/// Whether the name of `@name` keeps the limits on names.
+fn keeps_limits(alloc: Global, text: &[u8]) -> Result<bool, OutOfMemory>
+    ensures { IfOk result (λ keeps. keeps ≡ is_name (name_of (drop 1 text.now))) }
+{
+    let token = Token {
+        kind: Kind::AtName,
+        from: 0,
+        to: text.len(),
+    };
+    match undecoded(text, token) {
+        Some(name) => Ok(is_name(name)),
+        None => {
+            let name = decode(alloc, text, token)?;
+            Ok(is_name(name.as_slice()))
+        }
+    }
+}
+
+/// The name of a call that is dropped, where it keeps the limits on names.
+fn dropped_callee(alloc: Global, text: &[u8]) -> Result<Option<(Option<Inst>, usize)>, OutOfMemory>
+    ensures exact { IfOk result (λ found. found ≡ dropped_callee_at text.now) }
+    ensures taken { IfOk result (λ found. IfSome found (λ f. f.1 ≡ 1)) }
+{
+    if keeps_limits(alloc, text)? {
+        Ok(Some((None, 1)))
+    } else {
+        Ok(None)
+    }
+}
+
+/// The same. A call of a name of debug information is dropped, where the name keeps the limits on names.
 fn void_callee(
     alloc: Global,
     names: &Names,
@@ -315,7 +348,7 @@ fn void_callee(
 {
     match kept {
         [first, ..] => match first.shape {
-            Shape::At(AtName::Debug) => Ok(Some((None, 1))),
+            Shape::At(AtName::Debug) => dropped_callee(alloc, first.text),
             _ => plain_callee(alloc, names, ret_ext, whole, kept),
         },
         [] => Ok(None),

@@ -4,17 +4,9 @@ use Rattle.std.proofs.lemmas.List.{drop-drop, append-nil}
 use Rattle.std.proofs.lemmas.Bool.{false≢true}
 use Rattle.ir_grammar.specs.declared.shape.Shape.{Shape}
 use Rattle.ir_grammar.specs.declared.lexeme.Lexeme.{Lexeme}
-use Rattle.ir_grammar.specs.Walk.{Kept, seen}
+use Rattle.ir_grammar.specs.Tokens.{Kept, seen}
 use Rattle.ir_scope.specs.Runs.{Reading, run, runs, begins_with, closed_by}
-
-pub seen-drop : (k : ℕ) (xs : List Lexeme) → seen (drop k xs) ≡ drop k (seen xs)
-seen-drop zero xs = refl
-seen-drop (suc k) [] = refl
-seen-drop (suc k) (x ∷ xs) = seen-drop k xs
-
-pub seen-length : (xs : List Lexeme) → length (seen xs) ≡ length xs
-seen-length [] = refl
-seen-length (x ∷ xs) = ap suc (seen-length xs)
+use Rattle.ir_scope.proofs.Runs.{seen-drop, seen-length}
 
 -- what is left behind some more lexemes
 pub seen-more : (xs : List Lexeme) (at n : ℕ) → seen (drop (at + n) xs) ≡ drop n (seen (drop at xs))

@@ -3,3 +3,4 @@ pub mod Closed
 pub mod Moving
 pub mod Parts
 pub mod Suiting
+pub mod Spelling

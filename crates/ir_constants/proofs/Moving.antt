@@ -1,14 +1,15 @@
 -- Addresses: what indices add to a base.
-use Rattle.std.proofs.Common.{◌≡◌, ◌∙◌, ℕ, suc, zero, ◌+◌, ◌-◌, ◌<◌, ◌≤◌, ◌^◌, ◌%◌, List, [], ◌∷◌, length, drop, Option, Some, None, option_map, option_and_then, refl, sym, ap, arith, add_assoc}
+use Rattle.std.proofs.Common.{◌≡◌, ◌∙◌, ℕ, suc, zero, ◌+◌, ◌-◌, ◌<◌, ◌^◌, ◌%◌, List, drop, Option, Some, None, option_map, option_and_then, refl, sym, ap, arith, add_assoc}
 use Rattle.ir_types.specs.declared.shape.Ty.{Ty}
 use Rattle.ir_grammar.specs.declared.lexeme.Lexeme.{Lexeme}
-use Rattle.ir_grammar.specs.Walk.{Kept, seen}
+use Rattle.ir_grammar.specs.Tokens.{Kept, seen}
 use Rattle.ir_scope.specs.Runs.{behind}
 use Rattle.ir_scope.specs.Scopes.{Env}
 use Rattle.ir_scope.specs.Types.{written_type}
+use Rattle.ir_scope.proofs.Runs.{seen-drop}
 use Rattle.ir_constants.specs.Offsets.{Indexed, offset_of}
 use Rattle.ir_constants.specs.Constants.{Place, is_close_paren, index_at, unflagged, moved, base_at, address_at}
-use Rattle.ir_constants.proofs.Closed.{closed, seen-drop}
+use Rattle.ir_constants.proofs.Closed.{closed}
 
 -- the base moved by what these indices add
 abbrev pub moved_by : Ty → Place × ℕ → Option (List Indexed × ℕ) → Option (Place × ℕ)

@@ -1,16 +1,17 @@
 -- Steps of the functions that read constants and their parts.
-use Rattle.std.proofs.Common.{◌≡◌, ◌∙◌, ℕ, suc, zero, ◌+◌, ◌-◌, ◌<◌, ◌≤◌, Bool, true, false, cond, List, [], ◌∷◌, ◌++◌, length, drop, get_or, Option, Some, None, option_map, option_and_then, refl, sym, ap, arith, add-one, drop-cons}
+use Rattle.std.proofs.Common.{◌≡◌, ◌∙◌, ℕ, suc, zero, ◌+◌, ◌-◌, ◌<◌, ◌≤◌, Bool, true, cond, List, [], ◌∷◌, ◌++◌, length, drop, get_or, Option, Some, None, option_and_then, sym, ap, arith, add-one, drop-cons}
 use Rattle.ir_types.specs.declared.shape.Ty.{Ty, out-Ty}
 use Rattle.ir_syntax.specs.declared.constant.Const.{Const}
 use Rattle.ir_grammar.specs.declared.shape.Shape.{Shape}
 use Rattle.ir_grammar.specs.declared.shape.Shape.TheVariants as is
 use Rattle.ir_grammar.specs.declared.lexeme.Lexeme.{Lexeme}
-use Rattle.ir_grammar.specs.Walk.{Kept, seen}
+use Rattle.ir_grammar.specs.Tokens.{Kept, seen}
 use Rattle.ir_scope.specs.Runs.{Reading, begins_with, behind}
 use Rattle.ir_scope.specs.Scopes.{Env}
 use Rattle.ir_scope.specs.Types.{written_type, same_type}
+use Rattle.ir_scope.proofs.Runs.{seen-drop}
 use Rattle.ir_constants.specs.Constants.{address_of, elements_at, fields_at, part_at, parts_at, constant_within}
-use Rattle.ir_constants.proofs.Closed.{extended, and_more, extended-more, seen-drop, seen-more}
+use Rattle.ir_constants.proofs.Closed.{extended, and_more, extended-more, seen-more}
 
 -- whether these begin so
 pub begins_there : (ends : Shape → Bool) (xs rest : List Lexeme) (n : ℕ) (b : Bool) → rest ≡ drop n xs → begins_with ends (seen rest) ≡ b → begins_with ends (drop n (seen xs)) ≡ b
@@ -41,18 +42,6 @@ front_brace env (suc depth) ty (x ∷ xs) rest d r deep some e =
     ∙ ap (λ n. behind 1 (fields_at env (constant_within env n) (out-Ty ty) (seen xs))) less ∙ ap (λ s. constant_within env (suc depth) ty ((s, x.text.now) ∷ seen xs)) (sym e)
 
 -- ---- parts
-
--- the part behind this type, where it is the one that is wanted
-abbrev pub part_by : (Ty → Reading Const) → Ty → List Kept → Ty × ℕ → Option (Const × ℕ)
-part_by constant ty ks t = cond (same_type ty t.0) (behind t.1 (constant ty (drop t.1 ks))) None
-
-pub part_same : (env : Env) (constant : Ty → Reading Const) (ty : Ty) (xs rest : List Lexeme) (t : Ty × ℕ) (o : Option (Const × ℕ)) → Some t ≡ written_type env.types (seen xs) → same_type ty t.0 ≡ true → rest ≡ drop t.1 xs → o ≡ constant ty (seen rest) →
-    behind t.1 o ≡ part_at env constant ty (seen xs)
-part_same env constant ty xs rest t o here same r is =
-    ap (behind t.1) is
-    ∙ ap (λ ks. behind t.1 (constant ty ks)) (ap seen r ∙ seen-drop t.1 xs)
-    ∙ ap (λ b. cond b (behind t.1 (constant ty (drop t.1 (seen xs)))) None) (sym same)
-    ∙ ap (option_and_then (part_by constant ty (seen xs))) here
 
 -- the types from a place on
 types_at : (types : List Ty) (i : ℕ) (ty : Ty) → i < length types → ty ≡ get_or types i ty → drop i types ≡ ty ∷ drop (i + 1) types

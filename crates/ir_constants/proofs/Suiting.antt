@@ -1,13 +1,15 @@
 -- What is read suits its type.
-use Rattle.std.proofs.Common.{◌≡◌, ◌∙◌, ℕ, ℤ, pos, suc, zero, ◌+◌, ◌-◌, ◌<◌, ◌≤◌, ◌^◌, ◌%◌, Bool, true, false, not, ◌&&◌, ◌==◌, cond, nat_eq, nat_lt, nat_le, IsTrue, List, [], ◌∷◌, length, drop, map, bytes_eq, Option, Some, None, option_map, option_and_then, refl, sym, ap, arith}
+use Rattle.std.proofs.Common.{◌≡◌, ◌∙◌, ℕ, ℤ, pos, suc, zero, ◌+◌, ◌-◌, ◌<◌, ◌^◌, ◌%◌, Bool, true, false, not, ◌&&◌, ◌==◌, cond, nat_eq, nat_lt, nat_le, IsTrue, List, [], ◌∷◌, length, drop, map, bytes_eq, Option, Some, None, option_map, option_and_then, refl, sym, ap, arith}
 use Rattle.std.specs.List.{list_all}
-use Rattle.std.proofs.lemmas.Bool.{false≢true, and_from, and_parts}
-use Rattle.std.proofs.lemmas.Bool.Decides.{nat_tests, Decides-eqb}
+use Rattle.std.proofs.lemmas.Bool.{and_from, and_parts}
+use Rattle.std.proofs.lemmas.Bool.Decides.{nat_tests}
 use Rattle.std.proofs.lemmas.List.{length-map}
 use Rattle.ir_types.specs.declared.scalar.Scalar.{Scalar}
 use Rattle.ir_types.specs.declared.scalar.Scalar.TheVariants.{I1, I8, I16, I32, I64, Ptr}
 use Rattle.ir_types.specs.declared.shape.Ty.{Ty, out-Ty}
 use Rattle.ir_types.specs.declared.shape.Ty.TheOpen.{Ty-F}
+use Rattle.ir_types.specs.Scalars.{signed_value}
+use Rattle.ir_types.specs.Names.{is_name}
 use Rattle.ir_syntax.specs.declared.constant.Const.{Const}
 use Rattle.ir_syntax.specs.declared.constant.Const.TheBlock.{Int, Null, Addr, Undef, Poison, Zero, Text}
 use Rattle.ir_syntax.specs.declared.constant.Const.TheViews.{Many}
@@ -19,13 +21,13 @@ use Rattle.ir_grammar.specs.declared.shape.Shape.{Shape}
 use Rattle.ir_grammar.specs.declared.shape.Shape.TheVariants as is
 use Rattle.ir_grammar.specs.declared.shape.Value.TheVariants as val
 use Rattle.ir_grammar.specs.Numbers.{number_of}
-use Rattle.ir_grammar.specs.Walk.{Kept}
+use Rattle.ir_grammar.specs.Tokens.{Kept}
 use Rattle.ir_scope.specs.Runs.{Reading, behind, run, runs, closed_by, begins_with}
 use Rattle.ir_scope.specs.Integers.{number, integer_of, width, truth}
 use Rattle.ir_scope.specs.Scopes.{Env}
 use Rattle.ir_scope.specs.Types.{written_type, same_type, is_close_brace}
-use Rattle.ir_constants.specs.Offsets.{offset_of, signed}
-use Rattle.ir_constants.specs.Constants.{Place, is_close_paren, index_at, is_close_square, moved, base_at, unflagged, address_at, zero_of, scalar_of, text_bytes, array_of, struct_of, single, is_pointer_type, part_at, parts_at, counted, elements_at, fields_at, address_of, constant_within, constant_at}
+use Rattle.ir_constants.specs.Offsets.{offset_of}
+use Rattle.ir_constants.specs.Constants.{Place, symbol_at, is_close_paren, index_at, is_close_square, moved, base_at, unflagged, address_at, zero_of, scalar_of, text_bytes, array_of, struct_of, single, is_pointer_type, part_at, parts_at, elements_at, fields_at, address_of, constant_within, constant_at}
 use Rattle.ir_constants.proofs.Closed.{closed}
 
 -- ---- answers that are there
@@ -65,6 +67,9 @@ place_within name (n ∷ ns) k e = by_test (bytes_eq name n) (place_within name 
     by_test false next e =
         let m = mapped (λ j. suc j) (place_among name ns) k e in
         omega (arith, next m.from m.there, m.gives)
+
+symbol_within : (name : List ℕ) (names : List (List ℕ)) (k : ℕ) → symbol_at names name ≡ Some k → k < length names
+symbol_within name names k e = let (named, there) = tested (is_name name) (place_among name names) k e in place_within name names k there
 
 -- a number of a width is below its power
 number_below : (w : ℕ) (text : List ℕ) (n : ℕ) → 0 < 2 ^ w → integer_of w text ≡ Some n → n < 2 ^ w
@@ -150,9 +155,9 @@ scalar_suits env s (is.Value val.Zero, text) c ty t e =
     let h : zero_of s ≡ c = cc in
     ap (λ c. suits (length env.symbols) c ty) (sym h) ∙ zero_of_suits (length env.symbols) s ty t
 scalar_suits env s (is.At kind, text) c ty t e =
-    let (p, o) = tested (is_pointer s) (option_map (λ place. Addr place (pos 0)) (place_among (name_of (drop 1 text)) env.symbols)) c e in
-    let m = mapped (λ place. Addr place (pos 0)) (place_among (name_of (drop 1 text)) env.symbols) c o in
-    ap (λ c. suits (length env.symbols) c ty) (sym m.gives) ∙ addr_suits (length env.symbols) m.from (pos 0) ty (ap takes_address t ∙ p) (place_within (name_of (drop 1 text)) env.symbols m.from m.there)
+    let (p, o) = tested (is_pointer s) (option_map (λ place. Addr place (pos 0)) (symbol_at env.symbols (name_of (drop 1 text)))) c e in
+    let m = mapped (λ place. Addr place (pos 0)) (symbol_at env.symbols (name_of (drop 1 text))) c o in
+    ap (λ c. suits (length env.symbols) c ty) (sym m.gives) ∙ addr_suits (length env.symbols) m.from (pos 0) ty (ap takes_address t ∙ p) (symbol_within (name_of (drop 1 text)) env.symbols m.from m.there)
 scalar_suits env s k c ty t e =
     let m = mapped (λ n. Int n) (number s k) c e in
     ap (λ c. suits (length env.symbols) c ty) (sym m.gives) ∙ suits-Int (length env.symbols) m.from ty ∙ ap (λ x. takes_number x m.from) t ∙ number_suits s k m.from m.there
@@ -198,8 +203,8 @@ behind_keeps n o f e = mapped (λ g. (g.0, n + g.1)) o f e
 
 base_within : (symbols : List (List ℕ)) (address : Reading Place) → ((ks : List Kept) (f : Place × ℕ) → address ks ≡ Some f → f.0.0 < length symbols) → (ks : List Kept) (f : Place × ℕ) → base_at symbols address ks ≡ Some f → f.0.0 < length symbols
 base_within symbols address inner ((is.At kind, text) ∷ ks) f e =
-    let m = mapped (λ place. ((place, 0), 1)) (place_among (name_of (drop 1 text)) symbols) f e in
-    let within = place_within (name_of (drop 1 text)) symbols m.from m.there in
+    let m = mapped (λ place. ((place, 0), 1)) (symbol_at symbols (name_of (drop 1 text))) f e in
+    let within = symbol_within (name_of (drop 1 text)) symbols m.from m.there in
     let same : m.from ≡ f.0.0 = ap (λ f. f.0.0) m.gives in
     omega (arith, within, same)
 base_within symbols address inner ((is.Address, text) ∷ ks) f e =
@@ -225,10 +230,10 @@ address_within env (suc depth) ks f e =
 
 address_suits : (env : Env) (ty : Ty) (ks : List Kept) (f : Const × ℕ) → address_of env (out-Ty ty) ks ≡ Some f → suits (length env.symbols) f.0 ty ≡ true
 address_suits env ty ks f e =
-    let (p, o) = tested (is_pointer_type (out-Ty ty)) (option_map (λ f. (Addr f.0.0 (signed f.0.1), f.1)) (address_at env 64 ks)) f e in
-    let m = mapped (λ f. (Addr f.0.0 (signed f.0.1), f.1)) (address_at env 64 ks) f o in
-    let same : Addr m.from.0.0 (signed m.from.0.1) ≡ f.0 = ap (λ f. f.0) m.gives in
-    ap (λ c. suits (length env.symbols) c ty) (sym same) ∙ addr_suits (length env.symbols) m.from.0.0 (signed m.from.0.1) ty (pointer_takes (out-Ty ty) p) (address_within env 64 ks m.from m.there)
+    let (p, o) = tested (is_pointer_type (out-Ty ty)) (option_map (λ f. (Addr f.0.0 (signed_value I64 f.0.1), f.1)) (address_at env 64 ks)) f e in
+    let m = mapped (λ f. (Addr f.0.0 (signed_value I64 f.0.1), f.1)) (address_at env 64 ks) f o in
+    let same : Addr m.from.0.0 (signed_value I64 m.from.0.1) ≡ f.0 = ap (λ f. f.0) m.gives in
+    ap (λ c. suits (length env.symbols) c ty) (sym same) ∙ addr_suits (length env.symbols) m.from.0.0 (signed_value I64 m.from.0.1) ty (pointer_takes (out-Ty ty) p) (address_within env 64 ks m.from m.there)
 
 -- ---- parts
 

@@ -1,11 +1,12 @@
 -- Constants as they are written, at their types.
-use Rattle.std.specs.Prelude.{ℕ, ℤ, suc, zero, pos, ◌+◌, ◌^◌, ◌%◌, Bool, true, false, not, ◌&&◌, ◌==◌, nat_eq, List, [], ◌∷◌, length, drop, Option, Some, None, option_map, option_and_then, if◌then◌else◌}
+use Rattle.std.specs.Prelude.{ℕ, suc, zero, pos, ◌+◌, ◌^◌, ◌%◌, Bool, true, false, not, ◌&&◌, nat_eq, List, [], ◌∷◌, length, drop, Option, Some, None, option_map, option_and_then, if◌then◌else◌}
 use Rattle.ir_lexer.specs.Texts.{name_of, inside, unescaped}
 use Rattle.ir_types.specs.declared.scalar.Scalar.{Scalar}
-use Rattle.ir_types.specs.declared.scalar.Scalar.TheVariants.{Ptr}
+use Rattle.ir_types.specs.declared.scalar.Scalar.TheVariants.{I64}
 use Rattle.ir_types.specs.declared.shape.Ty.{Ty, out-Ty}
-use Rattle.ir_types.specs.declared.shape.Ty.TheBlock.{One}
 use Rattle.ir_types.specs.declared.shape.Ty.TheOpen.{Ty-F}
+use Rattle.ir_types.specs.Scalars.{signed_value}
+use Rattle.ir_types.specs.Names.{is_name}
 use Rattle.ir_syntax.specs.declared.constant.Const.{Const}
 use Rattle.ir_syntax.specs.declared.constant.Const.TheBlock as const
 use Rattle.ir_syntax.specs.declared.constant.Const.TheViews.{Many}
@@ -16,12 +17,12 @@ use Rattle.ir_grammar.specs.declared.shape.Shape.TheVariants as is
 use Rattle.ir_grammar.specs.declared.shape.Free.TheVariants as free
 use Rattle.ir_grammar.specs.declared.shape.Flag.TheVariants as flag
 use Rattle.ir_grammar.specs.declared.shape.Value.TheVariants as val
-use Rattle.ir_grammar.specs.Walk.{Kept}
+use Rattle.ir_grammar.specs.Tokens.{Kept}
 use Rattle.ir_scope.specs.Runs.{Reading, behind, runs, closed_by}
 use Rattle.ir_scope.specs.Integers.{number}
 use Rattle.ir_scope.specs.Scopes.{Env}
 use Rattle.ir_scope.specs.Types.{written_type, is_close_brace, same_type}
-use Rattle.ir_constants.specs.Offsets.{Indexed, offset_of, signed}
+use Rattle.ir_constants.specs.Offsets.{Indexed, offset_of}
 
 abbrev pub is_close_paren : Shape → Bool
 is_close_paren is.CloseParen = true
@@ -30,6 +31,12 @@ is_close_paren _ = false
 abbrev pub is_close_square : Shape → Bool
 is_close_square is.CloseSquare = true
 is_close_square _ = false
+
+-- ---- symbols
+
+-- The place of the symbol that a use of a name stands for. A name that breaks the limits on names stands for nothing.
+abbrev pub symbol_at : List (List ℕ) → List ℕ → Option ℕ
+symbol_at symbols name = if is_name name then place_among name symbols else None
 
 -- ---- addresses
 
@@ -56,7 +63,7 @@ moved ty ks base =
 
 -- @name, or an address again
 abbrev pub base_at : List (List ℕ) → Reading Place → Reading Place
-base_at symbols address ((is.At kind, text) ∷ ks) = option_map (λ place. ((place, 0), 1)) (place_among (name_of (drop 1 text)) symbols)
+base_at symbols address ((is.At kind, text) ∷ ks) = option_map (λ place. ((place, 0), 1)) (symbol_at symbols (name_of (drop 1 text)))
 base_at symbols address ((is.Address, text) ∷ ks) = behind 1 (address ks)
 base_at symbols address _ = None
 
@@ -75,7 +82,7 @@ zero_of ty = if is_pointer ty then const.Null else const.Int 0
 abbrev pub scalar_of : Env → Scalar → Kept → Option Const
 scalar_of env ty (is.Value val.Null, text) = if is_pointer ty then Some const.Null else None
 scalar_of env ty (is.Value val.Zero, text) = Some (zero_of ty)
-scalar_of env ty (is.At kind, text) = if is_pointer ty then option_map (λ place. const.Addr place (pos 0)) (place_among (name_of (drop 1 text)) env.symbols) else None
+scalar_of env ty (is.At kind, text) = if is_pointer ty then option_map (λ place. const.Addr place (pos 0)) (symbol_at env.symbols (name_of (drop 1 text))) else None
 scalar_of env ty k = option_map (λ n. const.Int n) (number ty k)
 
 -- the bytes of c"text"
@@ -132,7 +139,7 @@ fields_at env constant _ ks = None
 
 -- the address, at ptr
 abbrev pub address_of : Env → Ty-F Ty → Reading Const
-address_of env ty ks = if is_pointer_type ty then option_map (λ f. (const.Addr f.0.0 (signed f.0.1), f.1)) (address_at env 64 ks) else None
+address_of env ty ks = if is_pointer_type ty then option_map (λ f. (const.Addr f.0.0 (signed_value I64 f.0.1), f.1)) (address_at env 64 ks) else None
 
 -- A constant at its type. So many arrays and structs may be open.
 abbrev pub constant_within : Env → ℕ → Ty → Reading Const

@@ -1,4 +1,3 @@
 pub mod Offsets
 pub mod Constants
-pub mod Singles
-pub mod Indices
+pub mod Mirrors

@@ -1,5 +1,5 @@
 -- How far indices go into a type.
-use Rattle.std.specs.Prelude.{ℕ, ℤ, pos, negsuc, zero, ◌+◌, ◌-◌, ◌*◌, ◌^◌, ◌%◌, Bool, true, false, ◌&&◌, nat_lt, List, [], ◌∷◌, map, Option, Some, None, option_map, option_and_then, if◌then◌else◌}
+use Rattle.std.specs.Prelude.{ℕ, ◌+◌, ◌*◌, ◌^◌, Bool, true, false, nat_lt, List, [], ◌∷◌, map, Option, Some, None, option_map, option_and_then, if◌then◌else◌}
 use Rattle.ir_types.specs.declared.scalar.Scalar.{Scalar}
 use Rattle.ir_types.specs.declared.scalar.Scalar.TheVariants.{I32}
 use Rattle.ir_types.specs.declared.shape.Ty.{Ty}
@@ -8,12 +8,9 @@ use Rattle.ir_types.specs.declared.shape.Index.TheVariants.{Num}
 use Rattle.ir_types.specs.declared.shape.Stride.{Stride}
 use Rattle.ir_types.specs.declared.shape.Stride.TheVariants.{Each, Field}
 use Rattle.ir_types.specs.Layout.{extent}
+use Rattle.ir_types.specs.Scalars.{signed_value}
 use Rattle.ir_types.specs.Walk.{strides}
 use Rattle.ir_scope.specs.Integers.{width, extended}
-
--- a number below 2^64 as a signed one
-abbrev pub signed : ℕ → ℤ
-signed n = if nat_lt n (2 ^ 63) then pos n else negsuc (2 ^ 64 - n - 1)
 
 -- an index: its type, and its number modulo 2^w
 abbrev pub Indexed : Type 0
@@ -23,8 +20,9 @@ Indexed = Scalar × ℕ
 abbrev pub wide : Indexed → ℕ
 wide index = extended (width index.0) index.1
 
+-- its signed value
 abbrev pub index_of : Indexed → Index
-index_of index = Num (signed (wide index))
+index_of index = Num (signed_value index.0 index.1)
 
 abbrev pub is_i32 : Scalar → Bool
 is_i32 I32 = true

@@ -1,10 +1,10 @@
 //! Constant addresses: a symbol, or a constant `getelementptr` from an address.
 ghost use Rattle.std.specs.Prelude.{◌≡◌, ◌≤◌, not, drop, length, All, IfOk, IfSome};
 ghost use Rattle.ir_types.specs.Nesting.{IsWithinNesting};
-ghost use Rattle.ir_grammar.specs.Walk.{seen};
+ghost use Rattle.ir_grammar.specs.Tokens.{seen};
 ghost use Rattle.ir_scope.specs.Runs.{begins_with, runs, closed_by};
 ghost use Rattle.ir_scope.specs.Scopes.{env_of};
-ghost use Rattle.ir_constants.specs.Indices.{IsIndex};
+ghost use Rattle.ir_constants.specs.Mirrors.Indices.{IsIndex};
 ghost use Rattle.ir_constants.specs.Constants.{is_close_paren, index_at, unflagged, moved, base_at, address_at};
 
 use crate::offsets::offset_of;

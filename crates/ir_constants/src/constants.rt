@@ -2,19 +2,20 @@
 ghost use Rattle.std.specs.Prelude.{◌≡◌, ◌≤◌, ◌<◌, ◌-◌, ◌^◌, not, length, Some, option_map, IfOk, IfSome};
 ghost use Rattle.ir_syntax.specs.declared.constant.Const.TheViews.{Many};
 ghost use Rattle.ir_types.specs.declared.shape.Ty.{out-Ty};
-ghost use Rattle.ir_grammar.specs.Walk.{seen};
+ghost use Rattle.ir_grammar.specs.Tokens.{seen};
 ghost use Rattle.ir_scope.specs.Runs.{begins_with, behind, runs, closed_by};
-ghost use Rattle.ir_scope.specs.Scopes.{env_of};
+ghost use Rattle.ir_scope.specs.Scopes.{env_of, type_among};
 ghost use Rattle.ir_scope.specs.Types.{is_close_brace};
 ghost use Rattle.ir_constants.specs.Constants.{is_close_square, part_at, parts_at, counted, elements_at, fields_at, address_of, constant_within, constant_at};
+ghost use Rattle.ir_constants.specs.Mirrors.Known.{IsKnown};
 
 use crate::addresses::address;
-use crate::offsets::signed;
+use crate::known::{front_name, typed};
 use crate::singles::{is_pointer_type, single};
 use ir_grammar::{Lexeme, Shape};
-use ir_scope::{Scope, read_type, same_type};
+use ir_scope::Scope;
 use ir_syntax::Const;
-use ir_types::{OutOfMemory, Ty};
+use ir_types::{OutOfMemory, Scalar, Ty};
 use sqlite_items::Items as List;
 use std::alloc::Global;
 
@@ -101,30 +102,32 @@ fn address_of(
         return Ok(None);
     }
     match address(alloc, scope, DEEPEST, kept)? {
-        Some(((place, offset), taken)) => Ok(Some((Const::Addr(place, signed(offset)), taken))),
+        Some(((place, offset), taken)) => Ok(Some((
+            Const::Addr(place, Scalar::I64.signed(offset)),
+            taken,
+        ))),
         None => Ok(None),
     }
 }
 
-/// One part `T C`, where T is this type. So many arrays and structs may be open within it.
+/// One part `T C`, where T is this type, for which the known name stands. So many arrays and structs may be open within it.
 #[cycle(constants)]
 fn part(
     alloc: Global,
     scope: &Scope,
     depth: usize,
     ty: &Ty,
+    known: Option<&[u8]>,
     kept: &[Lexeme],
 ) -> Result<Option<(Const, usize)>, OutOfMemory>
+    requires { IsKnown (type_among scope.now.types) ty.now known }
     ensures exact { IfOk result (λ found. found ≡ part_at (env_of scope.now) (constant_within (env_of scope.now) depth) ty.now (seen kept.now)) }
     ensures taken { IfOk result (λ found. IfSome found (λ f. (1 ≤ f.1) × (f.1 ≤ length kept.now))) }
 {
-    let (written, behind) = match read_type(alloc, scope, kept)? {
-        Some(found) => found,
+    let behind = match typed(alloc, scope, ty, known, kept)? {
+        Some(behind) => behind,
         None => return Ok(None),
     };
-    if !same_type(ty, &written) {
-        return Ok(None);
-    }
     match constant_within(alloc, scope, depth, ty, &kept[behind..])? {
         Some((constant, taken)) => Ok(Some((constant, behind + taken))),
         None => Ok(None),
@@ -144,11 +147,13 @@ fn list(
     ensures taken { IfOk result (λ found. IfSome found (λ f. f.1 ≤ length kept.now)) }
 {
     let mut parts = List::new(alloc);
+    let mut known = None;
     let mut at = 0;
     'reading: while !ends_elements(&kept[at..]) {
-        match part(alloc, scope, depth, element, &kept[at..])? {
+        match part(alloc, scope, depth, element, known, &kept[at..])? {
             Some((part, taken)) => {
                 parts.push(part)?;
+                known = front_name(&kept[at..]);
                 at += taken;
             }
             None => return Ok(None),
@@ -194,7 +199,7 @@ fn parts(
     let mut parts = List::new(alloc);
     let mut at = 0;
     'reading: for ty in types {
-        match part(alloc, scope, depth, ty, &kept[at..])? {
+        match part(alloc, scope, depth, ty, None, &kept[at..])? {
             Some((part, taken)) => {
                 parts.push(part)?;
                 at += taken;

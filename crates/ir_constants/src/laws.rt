@@ -3,7 +3,7 @@ ghost use Rattle.std.specs.Prelude.{◌≡◌, ℕ, List, Some, length};
 ghost use Rattle.ir_types.specs.declared.shape.Ty.{Ty};
 ghost use Rattle.ir_syntax.specs.declared.constant.Const.{Const};
 ghost use Rattle.ir_syntax.specs.Suits.{Suits};
-ghost use Rattle.ir_grammar.specs.Walk.{Kept};
+ghost use Rattle.ir_grammar.specs.Tokens.{Kept};
 ghost use Rattle.ir_scope.specs.Scopes.{Env};
 ghost use Rattle.ir_constants.specs.Constants.{constant_at};
 

@@ -3,6 +3,7 @@
 
 mod addresses;
 mod constants;
+mod known;
 mod laws;
 mod offsets;
 mod singles;

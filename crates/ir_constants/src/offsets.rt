@@ -1,20 +1,13 @@
 //! Offsets of constant addresses: what the indices of a constant `getelementptr` add up to.
 ghost use Rattle.std.specs.Prelude.{◌≡◌, ◌^◌, ◌%◌, ◌<◌, IfOk, All, map, option_map};
 ghost use Rattle.ir_types.specs.Nesting.{IsWithinNesting};
-ghost use Rattle.ir_constants.specs.Indices.{IsIndex};
-ghost use Rattle.ir_constants.specs.Offsets.{signed, wide, index_of, added, total, offset_of};
+ghost use Rattle.ir_constants.specs.Mirrors.Indices.{IsIndex};
+ghost use Rattle.ir_constants.specs.Offsets.{wide, index_of, added, total, offset_of};
 
 use ir_scope::extend;
 use ir_types::{Index, OutOfMemory, Scalar, Stride, Ty, WalkFault, walk_indices};
 use sqlite_items::Items as List;
 use std::alloc::Global;
-
-/// The number of 64 bits as a signed one.
-pub fn signed(number: u64) -> i64
-    ensures { result ≡ signed number }
-{
-    number.cast_signed()
-}
 
 /// What an index adds, modulo 2^64.
 fn added(index: (Scalar, u64), stride: Stride) -> Option<u64>
@@ -47,12 +40,11 @@ fn total(indices: &[(Scalar, u64)], strides: &[Stride]) -> Option<u64>
 
 /// The indices of a walk.
 fn walked(alloc: Global, indices: &[(Scalar, u64)]) -> Result<List<Index>, OutOfMemory>
-    requires { All IsIndex indices.now }
     ensures { IfOk result (λ walked. walked ≡ map index_of indices.now) }
 {
     let mut walked = List::new(alloc);
     for (ty, number) in indices {
-        walked.push(Index::Num(signed(extend(*ty, *number))))?;
+        walked.push(Index::Num(ty.signed(*number)))?;
     }
     Ok(walked)
 }

@@ -3,12 +3,11 @@ ghost use Rattle.std.specs.Prelude.{◌≡◌, ◌&&◌, nat_eq, length, drop, p
 ghost use Rattle.ir_types.specs.declared.shape.Ty.{out-Ty};
 ghost use Rattle.ir_syntax.specs.declared.constant.Const.TheBlock.{Int, Null, Addr, Text};
 ghost use Rattle.ir_lexer.specs.Texts.{name_of};
-ghost use Rattle.name_table.specs.Places.{place_among};
 ghost use Rattle.ir_syntax.specs.Suits.{is_byte, is_pointer};
 ghost use Rattle.ir_scope.specs.Integers.{number};
 ghost use Rattle.ir_scope.specs.Scopes.{env_of};
-ghost use Rattle.ir_constants.specs.Constants.{zero_of, scalar_of, array_of, struct_of, single, is_pointer_type, text_bytes};
-ghost use Rattle.ir_constants.specs.Singles.{defined};
+ghost use Rattle.ir_constants.specs.Constants.{symbol_at, zero_of, scalar_of, array_of, struct_of, single, is_pointer_type, text_bytes};
+ghost use Rattle.ir_constants.specs.Mirrors.Singles.{defined};
 
 use crate::symbols::{place_of, text_bytes};
 use ir_grammar::{Lexeme, Shape, Value};
@@ -76,7 +75,7 @@ fn symbol_at(
     ty: Scalar,
     text: &[u8],
 ) -> Result<Option<Const>, OutOfMemory>
-    ensures { IfOk result (λ found. found ≡ (if is_pointer ty then option_map (λ place. Addr place (pos 0)) (place_among (name_of (drop 1 text.now)) scope.now.symbols) else None)) }
+    ensures { IfOk result (λ found. found ≡ (if is_pointer ty then option_map (λ place. Addr place (pos 0)) (symbol_at scope.now.symbols (name_of (drop 1 text.now))) else None)) }
 {
     if !is_pointer(ty) {
         return Ok(None);

@@ -1,17 +1,27 @@
 //! What texts of lexemes stand for.
 ghost use Rattle.std.specs.Prelude.{◌≡◌, IfOk, drop};
 ghost use Rattle.ir_lexer.specs.Texts.{name_of};
-ghost use Rattle.name_table.specs.Places.{place_among};
-ghost use Rattle.ir_constants.specs.Constants.{text_bytes};
+ghost use Rattle.ir_constants.specs.Constants.{symbol_at, text_bytes};
 
 use ir_lexer::{Kind, Token, decode, undecoded};
 use ir_scope::Scope;
-use ir_types::{Bytes, OutOfMemory};
+use ir_types::{Bytes, OutOfMemory, is_name};
 use std::alloc::Global;
 
-/// The place of the symbol that `@name` names.
+/// The place of the symbol of this name: none, where it breaks the limits on names.
+fn known(scope: &Scope, name: &[u8]) -> Option<usize>
+    ensures { result ≡ symbol_at scope.now.symbols name.now }
+{
+    if is_name(name) {
+        scope.lookup_symbol(name)
+    } else {
+        None
+    }
+}
+
+/// The place of the symbol that `@name` names: none, where the name breaks the limits on names.
 pub fn place_of(alloc: Global, scope: &Scope, text: &[u8]) -> Result<Option<usize>, OutOfMemory>
-    ensures { IfOk result (λ found. found ≡ place_among (name_of (drop 1 text.now)) scope.now.symbols) }
+    ensures { IfOk result (λ found. found ≡ symbol_at scope.now.symbols (name_of (drop 1 text.now))) }
 {
     let token = Token {
         kind: Kind::AtName,
@@ -19,10 +29,10 @@ pub fn place_of(alloc: Global, scope: &Scope, text: &[u8]) -> Result<Option<usiz
         to: text.len(),
     };
     match undecoded(text, token) {
-        Some(name) => Ok(scope.lookup_symbol(name)),
+        Some(name) => Ok(known(scope, name)),
         None => {
             let name = decode(alloc, text, token)?;
-            Ok(scope.lookup_symbol(name.as_slice()))
+            Ok(known(scope, name.as_slice()))
         }
     }
 }

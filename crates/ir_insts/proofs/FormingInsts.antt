@@ -15,7 +15,7 @@ use Rattle.ir_syntax.specs.Suits.{IsType, is_pointer}
 use Rattle.ir_syntax.specs.FormedBody.{Places, IsOperand, AllowsFlags, may_wrap, may_be_exact, may_be_disjoint, IsIndex, FormedInst}
 use Rattle.ir_grammar.specs.declared.shape.Shape.TheVariants as is
 use Rattle.ir_grammar.specs.declared.shape.Free.TheVariants as free
-use Rattle.ir_grammar.specs.Walk.{Kept}
+use Rattle.ir_grammar.specs.Tokens.{Kept}
 use Rattle.ir_scope.specs.Runs.{runs}
 use Rattle.ir_scope.specs.Types.{written_type}
 use Rattle.ir_operands.specs.Operands.{Names, operand_at, typed, pair_at, flags_at, allows, nneg_at, allows_nneg, inbounds_at}

@@ -12,7 +12,7 @@ use Rattle.ir_syntax.specs.Suits.{is_pointer}
 use Rattle.ir_grammar.specs.declared.shape.Shape.{Shape}
 use Rattle.ir_grammar.specs.declared.shape.Shape.TheVariants as is
 use Rattle.ir_grammar.specs.declared.shape.Free.TheVariants as free
-use Rattle.ir_grammar.specs.Walk.{Kept}
+use Rattle.ir_grammar.specs.Tokens.{Kept}
 use Rattle.ir_scope.specs.Runs.{Reading, behind, runs}
 use Rattle.ir_scope.specs.Integers.{number}
 use Rattle.ir_scope.specs.Types.{written_type}

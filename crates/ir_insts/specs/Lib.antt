@@ -1,2 +1,2 @@
 pub mod Insts
-pub mod Shaped
+pub mod Mirrors

@@ -1,7 +1,7 @@
 //! What an instruction may have.
 ghost use Rattle.std.specs.Prelude.{◌≡◌};
 ghost use Rattle.ir_syntax.specs.FormedBody.{may_wrap, may_be_exact, may_be_disjoint};
-ghost use Rattle.ir_grammar.specs.Walk.{seen};
+ghost use Rattle.ir_grammar.specs.Tokens.{seen};
 ghost use Rattle.ir_scope.specs.Runs.{begins_with};
 ghost use Rattle.ir_operands.specs.Operands.{allows, allows_nneg};
 ghost use Rattle.ir_insts.specs.Insts.{is_integer};

@@ -1,11 +1,11 @@
 //! Instructions that aren't calls, behind their words.
 ghost use Rattle.std.specs.Prelude.{◌≡◌, ◌≤◌, length, IfOk, IfSome};
-ghost use Rattle.ir_grammar.specs.Walk.{seen};
+ghost use Rattle.ir_grammar.specs.Tokens.{seen};
 ghost use Rattle.ir_scope.specs.Runs.{runs};
-ghost use Rattle.ir_operands.specs.Naming.{naming};
+ghost use Rattle.ir_operands.specs.Mirrors.Naming.{naming};
 ghost use Rattle.ir_operands.specs.Operands.{operand_at, typed};
 ghost use Rattle.ir_insts.specs.Insts.{is_integer, bin_at, icmp_at, select_at, cast_at, count_at, alloca_at, load_at, store_at, gep_at};
-ghost use Rattle.ir_insts.specs.Shaped.{typed_count_at, typed_base_at, typed_store_at, indexed_at};
+ghost use Rattle.ir_insts.specs.Mirrors.Shaped.{typed_count_at, typed_base_at, typed_store_at, indexed_at};
 
 use crate::allowed::{allows, allows_nneg, begins_integer};
 use ir_grammar::{Free, Lexeme, Shape};
@@ -144,7 +144,7 @@ fn count(kept: &[Lexeme]) -> Option<(u64, usize)>
 }
 
 /// `type [, iN count]`.
-#[tactic(auto, unfolding(ir_operands::specs::Naming::naming))]
+#[tactic(auto, unfolding(ir_operands::specs::Mirrors::Naming::naming))]
 fn typed_count(
     alloc: Global,
     names: &Names,
@@ -243,7 +243,7 @@ pub fn store(
 }
 
 /// `type, ptr p`.
-#[tactic(auto, unfolding(ir_operands::specs::Naming::naming))]
+#[tactic(auto, unfolding(ir_operands::specs::Mirrors::Naming::naming))]
 fn typed_base(
     alloc: Global,
     names: &Names,

@@ -1,92 +1,20 @@
 -- One more name among names that are well.
-use Rattle.std.proofs.Common.{◌≡◌, ◌∙◌, ℕ, Bool, true, false, cond, not, List, [], ◌∷◌, ◌++◌, map, Option, Some, bytes_eq, refl, sym, ap}
+use Rattle.std.proofs.Common.{◌≡◌, ◌∙◌, ℕ, Bool, true, false, cond, List, [], ◌∷◌, ◌++◌, map, Option, Some, bytes_eq, refl, sym, ap}
 use Rattle.std.specs.List.{list_all}
 use Rattle.std.specs.Option.{is_some}
 use Rattle.std.specs.Map.{lookup}
 use Rattle.std.proofs.lemmas.Bool.{false≢true, and_parts, and_from}
 use Rattle.std.proofs.lemmas.List.{map-append}
 use Rattle.std.proofs.lemmas.List.Folds.{list_all-append}
-use Rattle.std.proofs.lemmas.Slice.Eq.{bytes_eq-Decides}
 use Rattle.indexmap.specs.IndexMap.{insert_entry}
 use Rattle.name_table.specs.Places.{is_among, are_distinct}
+use Rattle.name_table.proofs.NameLists.{distinct-more, distinct-front, new-absent}
 use Rattle.ir_locals.specs.Locals.{Local, is_name, are_locals, local_among}
-
-not_true : (b : Bool) → not b ≡ true → b ≡ false
-not_true true e = sym e
-not_true false e = refl
 
 -- what fails wherever something that follows from it fails
 pub fails : (b c : Bool) → (b ≡ true → c ≡ true) → c ≡ false → b ≡ false
 fails true c f e = sym (f refl) ∙ e
 fails false c f e = refl
-
-pub same : (a b : List ℕ) → bytes_eq a b ≡ true → a ≡ b
-same a b e = (bytes_eq-Decides a b).0 e
-
-pub same-refl : (a : List ℕ) → bytes_eq a a ≡ true
-same-refl a = (bytes_eq-Decides a a).1 refl
-
-differ-sym : (a b : List ℕ) → bytes_eq a b ≡ false → bytes_eq b a ≡ false
-differ-sym a b e = fails (bytes_eq b a) (bytes_eq a b) (λ f. ap (bytes_eq a) (same b a f) ∙ same-refl a) e
-
-absent-tail : (name other : List ℕ) (others : List (List ℕ)) → is_among name (other ∷ others) ≡ false → is_among name others ≡ false
-absent-tail name other others e = cases (bytes_eq name other) e
-  where
-    cases : (t : Bool) → cond t true (is_among name others) ≡ false → is_among name others ≡ false
-    cases true f = cc
-    cases false f = f
-
-absent-head : (name other : List ℕ) (others : List (List ℕ)) → is_among name (other ∷ others) ≡ false → bytes_eq name other ≡ false
-absent-head name other others e = cases (bytes_eq name other) e
-  where
-    cases : (t : Bool) → cond t true (is_among name others) ≡ false → t ≡ false
-    cases true f = f
-    cases false f = refl
-
--- ---- distinct names
-
-absent-more : (x y : List ℕ) (xs : List (List ℕ)) → is_among x xs ≡ false → bytes_eq y x ≡ false → is_among x (xs ++ y ∷ []) ≡ false
-absent-more x y [] e d = ap (λ b. cond b true false) (differ-sym y x d)
-absent-more x y (z ∷ xs) e d =
-    ap (λ b. cond b true (is_among x (xs ++ y ∷ []))) (absent-head x z xs e) ∙ absent-more x y xs (absent-tail x z xs e) d
-
-among-here : (name : List ℕ) (xs ys : List (List ℕ)) → is_among name (xs ++ name ∷ ys) ≡ true
-among-here name [] ys = ap (λ b. cond b true (is_among name ys)) (same-refl name)
-among-here name (x ∷ xs) ys = ap (cond (bytes_eq name x) true) (among-here name xs ys) ∙ both (bytes_eq name x)
-  where
-    both : (b : Bool) → cond b true true ≡ true
-    both true = refl
-    both false = refl
-
-absent-front : (name : List ℕ) (xs ys : List (List ℕ)) → is_among name (xs ++ ys) ≡ false → is_among name xs ≡ false
-absent-front name [] ys e = refl
-absent-front name (x ∷ xs) ys e =
-    ap (λ b. cond b true (is_among name xs)) (absent-head name x (xs ++ ys) e) ∙ absent-front name xs ys (absent-tail name x (xs ++ ys) e)
-
-distinct-more : (xs : List (List ℕ)) (y : List ℕ) → are_distinct xs ≡ true → is_among y xs ≡ false → are_distinct (xs ++ y ∷ []) ≡ true
-distinct-more [] y d e = refl
-distinct-more (x ∷ xs) y d e =
-    let (new, rest) = and_parts (not (is_among x xs)) (are_distinct xs) d in
-    and_from (not (is_among x (xs ++ y ∷ []))) (are_distinct (xs ++ y ∷ []))
-    (ap not (absent-more x y xs (not_true _ new) (absent-head y x xs e)))
-    (distinct-more xs y rest (absent-tail y x xs e))
-
-distinct-front : (xs ys : List (List ℕ)) → are_distinct (xs ++ ys) ≡ true → are_distinct xs ≡ true
-distinct-front [] ys d = refl
-distinct-front (x ∷ xs) ys d =
-    let (new, rest) = and_parts (not (is_among x (xs ++ ys))) (are_distinct (xs ++ ys)) d in
-    and_from (not (is_among x xs)) (are_distinct xs) (ap not (absent-front x xs ys (not_true _ new))) (distinct-front xs ys rest)
-
--- a name before which the same stands
-new-absent : (xs : List (List ℕ)) (y : List ℕ) → are_distinct (xs ++ y ∷ []) ≡ true → is_among y xs ≡ false
-new-absent [] y d = refl
-new-absent (x ∷ xs) y d =
-    let (new, rest) = and_parts (not (is_among x (xs ++ y ∷ []))) (are_distinct (xs ++ y ∷ [])) d in
-    ap (λ b. cond b true (is_among y xs)) (other (bytes_eq y x) refl (not_true _ new)) ∙ new-absent xs y rest
-  where
-    other : (b : Bool) → bytes_eq y x ≡ b → is_among x (xs ++ y ∷ []) ≡ false → bytes_eq y x ≡ false
-    other false e f = e
-    other true e f = absurd (false≢true (sym f ∙ ap (λ z. is_among z (xs ++ y ∷ [])) (sym (same y x e)) ∙ among-here y xs []))
 
 -- ---- names with what they stand for
 

@@ -4,11 +4,12 @@ use Rattle.std.specs.List.{slice_get, list_all}
 use Rattle.std.specs.Option.{is_some}
 use Rattle.std.proofs.lemmas.Bool.{false≢true, and_parts, not-true}
 use Rattle.ir_syntax.specs.declared.constant.Operand.TheVariants as operand
-use Rattle.ir_grammar.specs.Walk.{Kept}
+use Rattle.ir_grammar.specs.Tokens.{Kept}
 use Rattle.name_table.specs.Places.{is_among, are_distinct}
+use Rattle.name_table.proofs.NameLists.{same, same-refl}
 use Rattle.ir_locals.specs.declared.local.Local.TheVariants.{Param, Reg, Block}
 use Rattle.ir_locals.specs.Locals.{Local, is_name, numbered, named, result_names, block_names, locals_of, are_locals, local_among, operand_in, block_in}
-use Rattle.ir_locals.proofs.Adding.{names, among_names, same, same-refl}
+use Rattle.ir_locals.proofs.Adding.{names, among_names}
 
 entry_found : (ls : List (List ℕ × Local)) (k : ℕ) (l : List ℕ × Local) → are_distinct (names ls) ≡ true → slice_get ls k ≡ Some l → local_among ls l.0 ≡ Some l.1
 entry_found [] k l d e = cc

@@ -3,7 +3,7 @@ use Rattle.std.proofs.Common.{◌≡◌, ◌∙◌, ℕ, ◌<◌, suc, true, fal
 use Rattle.std.specs.List.{filter}
 use Rattle.std.specs.Fmt.{decimal}
 use Rattle.ir_grammar.specs.declared.lexeme.Lexeme.{Lexeme}
-use Rattle.ir_grammar.specs.Walk.{Kept, seen}
+use Rattle.ir_grammar.specs.Tokens.{Kept, seen}
 use Rattle.ir_locals.specs.declared.local.Local.TheVariants.{Param, Block}
 use Rattle.ir_locals.specs.Locals.{Local, label_name, has_result, result_name, results_from, is_label, label_names, decimals, begins_labelled, result_names, block_names, numbered, named, locals_of, are_locals}
 use Rattle.ir_locals.proofs.Adding.{front_well, fails}

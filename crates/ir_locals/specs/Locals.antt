@@ -6,7 +6,7 @@ use Rattle.ir_lexer.specs.Spelled.{is_decimal}
 use Rattle.ir_lexer.specs.Texts.{name_of}
 use Rattle.ir_grammar.specs.declared.shape.Shape.{Shape}
 use Rattle.ir_grammar.specs.declared.shape.Shape.TheVariants as is
-use Rattle.ir_grammar.specs.Walk.{Kept}
+use Rattle.ir_grammar.specs.Tokens.{Kept}
 use Rattle.ir_syntax.specs.declared.constant.Operand.{Operand}
 use Rattle.ir_syntax.specs.declared.constant.Operand.TheVariants as operand
 use Rattle.name_table.specs.Places.{are_distinct}

@@ -1,7 +1,7 @@
 //! Laws of names. Each is the contract of a function that does nothing.
 ghost use Rattle.std.specs.Prelude.{◌≡◌, ◌<◌, ℕ, List, true, Some, length, slice_get};
 ghost use Rattle.ir_syntax.specs.declared.constant.Operand.TheVariants as operand;
-ghost use Rattle.ir_grammar.specs.Walk.{Kept};
+ghost use Rattle.ir_grammar.specs.Tokens.{Kept};
 ghost use Rattle.ir_locals.specs.Locals.{Local, result_names, block_names, locals_of, are_locals, local_among, operand_in, block_in};
 
 /// Where the names are well, each stands for what its own entry says.

@@ -1,6 +1,6 @@
 //! Which kept tokens count results, and which begin blocks.
 ghost use Rattle.std.specs.Prelude.{◌≡◌};
-ghost use Rattle.ir_grammar.specs.Walk.{seen};
+ghost use Rattle.ir_grammar.specs.Tokens.{seen};
 ghost use Rattle.ir_locals.specs.Locals.{has_result, is_label, begins_labelled, result_name};
 ghost use Rattle.ir_locals.specs.Adding.{waiting_name};
 

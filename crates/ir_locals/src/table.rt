@@ -1,7 +1,7 @@
 //! The names of a function, found by hash.
 ghost use Rattle.std.specs.Prelude.{◌≡◌, ◌≤◌, length, ◌∷◌, [], true, Some, None, IfOk, if◌then◌else◌};
 ghost use Rattle.ir_lexer.specs.Texts.{stands_for};
-ghost use Rattle.ir_grammar.specs.Walk.{seen};
+ghost use Rattle.ir_grammar.specs.Tokens.{seen};
 ghost use Rattle.ir_locals.specs.Locals.{local_name, label_names, result_names, block_names, numbered, named, locals_of, are_locals, local_among, operand_in, block_in};
 ghost use Rattle.ir_locals.specs.Adding.{HasAdded, waiting_name};
 

@@ -4,7 +4,7 @@ use Rattle.std.specs.Prelude.{AllPairs}
 use Rattle.std.proofs.lemmas.Bool.{false≢true}
 use Rattle.ir_types.specs.declared.scalar.Scalar.{Scalar}
 use Rattle.ir_syntax.specs.FormedBody.{Places, IsOperand, item_name}
-use Rattle.ir_grammar.specs.Walk.{Kept}
+use Rattle.ir_grammar.specs.Tokens.{Kept}
 use Rattle.ir_operands.specs.Operands.{Names, operand_at, block_at}
 use Rattle.ir_operands.proofs.FormingReadings.{IsRead}
 

@@ -16,7 +16,7 @@ use Rattle.ir_grammar.specs.declared.shape.Shape.TheVariants as is
 use Rattle.ir_grammar.specs.declared.shape.Digits.TheVariants as digits
 use Rattle.ir_grammar.specs.declared.shape.Value.TheVariants as val
 use Rattle.ir_grammar.specs.Numbers.{number_of, exponents, exponent_among, exponent_of}
-use Rattle.ir_grammar.specs.Walk.{Kept}
+use Rattle.ir_grammar.specs.Tokens.{Kept}
 use Rattle.ir_scope.specs.Integers.{width, integer_of, truth, number}
 use Rattle.ir_scope.specs.Types.{fits, fitting, type_at, written_type}
 use Rattle.ir_operands.specs.Operands.{align_at, aligned}

@@ -7,9 +7,9 @@ use Rattle.ir_grammar.specs.declared.shape.Flag.{Flag}
 use Rattle.ir_grammar.specs.declared.shape.Flag.TheVariants as flag
 use Rattle.ir_grammar.specs.declared.shape.Shape.TheVariants as is
 use Rattle.ir_grammar.specs.declared.shape.Free.TheVariants as free
-use Rattle.ir_grammar.specs.Walk.{Kept}
+use Rattle.ir_grammar.specs.Tokens.{Kept}
 use Rattle.ir_operands.specs.Operands.{with_flag, flags_at}
-use Rattle.ir_operands.specs.Shaped.{first_flag}
+use Rattle.ir_operands.specs.Mirrors.Shaped.{first_flag}
 
 -- the flags that are among these or those
 abbrev pub either : Flags → Flags → Flags

@@ -1,6 +1,5 @@
 mod Gathered
 mod Powers
-pub mod Kept
 pub mod Runs
 pub mod FormingReadings
 pub mod FormingTypes

@@ -1,4 +1,3 @@
 pub mod Operands
 pub mod Marks
-pub mod Naming
-pub mod Shaped
+pub mod Mirrors

@@ -5,7 +5,7 @@ use Rattle.ir_types.specs.declared.scalar.Ext.{Ext}
 use Rattle.ir_types.specs.declared.scalar.Ext.TheVariants.{Plain}
 use Rattle.ir_grammar.specs.declared.shape.Shape.{Shape}
 use Rattle.ir_grammar.specs.declared.shape.Shape.TheVariants as is
-use Rattle.ir_grammar.specs.Walk.{Kept}
+use Rattle.ir_grammar.specs.Tokens.{Kept}
 use Rattle.ir_scope.specs.Runs.{Reading}
 
 -- [ signext or zeroext ]

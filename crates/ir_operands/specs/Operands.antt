@@ -17,7 +17,7 @@ use Rattle.ir_grammar.specs.declared.shape.Free.TheVariants as free
 use Rattle.ir_grammar.specs.declared.shape.Flag.{Flag}
 use Rattle.ir_grammar.specs.declared.shape.Flag.TheVariants as flag
 use Rattle.ir_grammar.specs.Numbers.{number_of, exponent_of}
-use Rattle.ir_grammar.specs.Walk.{Kept}
+use Rattle.ir_grammar.specs.Tokens.{Kept}
 use Rattle.ir_scope.specs.Runs.{Reading, behind}
 use Rattle.ir_scope.specs.Scopes.{Env}
 use Rattle.ir_constants.specs.Constants.{constant_at}

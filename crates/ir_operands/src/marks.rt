@@ -1,6 +1,6 @@
 //! Marks of one lexeme, in front of what is kept, and what stands behind lexemes.
 ghost use Rattle.std.specs.Prelude.{◌≡◌, ◌+◌, ◌≤◌, length, drop, IfSome};
-ghost use Rattle.ir_grammar.specs.Walk.{seen};
+ghost use Rattle.ir_grammar.specs.Tokens.{seen};
 ghost use Rattle.ir_scope.specs.Runs.{begins_with};
 ghost use Rattle.ir_constants.specs.Constants.{is_close_paren};
 ghost use Rattle.ir_operands.specs.Marks.{ext_at, is_scalar, scalar_at, dots_at};

@@ -1,9 +1,9 @@
 //! Flags and alignments of instructions.
 ghost use Rattle.std.specs.Prelude.{◌≡◌, ◌≤◌, length, IfSome};
 ghost use Rattle.ir_grammar.specs.Numbers.{number_of, exponent_of};
-ghost use Rattle.ir_grammar.specs.Walk.{seen};
+ghost use Rattle.ir_grammar.specs.Tokens.{seen};
 ghost use Rattle.ir_operands.specs.Operands.{with_flag, flags_at, nneg_at, inbounds_at, align_at};
-ghost use Rattle.ir_operands.specs.Shaped.{first_flag};
+ghost use Rattle.ir_operands.specs.Mirrors.Shaped.{first_flag};
 
 use crate::marks::after;
 use ir_grammar::{Digits, Flag, Free, Lexeme, Shape, exponent_of, number_of};

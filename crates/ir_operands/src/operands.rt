@@ -1,11 +1,11 @@
 //! Operands and blocks of instructions.
 ghost use Rattle.std.specs.Prelude.{◌≡◌, ◌≤◌, length, option_map, IfOk, IfSome};
 ghost use Rattle.ir_types.specs.declared.scalar.Scalar.TheVariants.{Ptr};
-ghost use Rattle.ir_grammar.specs.Walk.{seen};
+ghost use Rattle.ir_grammar.specs.Tokens.{seen};
 ghost use Rattle.ir_locals.specs.Locals.{operand_in, local_among, local_name};
-ghost use Rattle.ir_operands.specs.Naming.{naming};
+ghost use Rattle.ir_operands.specs.Mirrors.Naming.{naming};
 ghost use Rattle.ir_operands.specs.Operands.{operand_at, block_at, typed, pair_at};
-ghost use Rattle.ir_operands.specs.Shaped.{constant_operand_at};
+ghost use Rattle.ir_operands.specs.Mirrors.Shaped.{constant_operand_at};
 
 use crate::marks::after;
 use crate::names::Names;
@@ -16,7 +16,7 @@ use ir_types::{OutOfMemory, Scalar, Ty};
 use std::alloc::Global;
 
 /// A constant at a type, as an operand.
-#[tactic(auto, unfolding(crate::specs::Naming::naming))]
+#[tactic(auto, unfolding(crate::specs::Mirrors::Naming::naming))]
 fn constant(
     alloc: Global,
     names: &Names,
@@ -33,7 +33,7 @@ fn constant(
 }
 
 /// A parameter or a register, by the text of its name.
-#[tactic(auto, unfolding(crate::specs::Naming::naming))]
+#[tactic(auto, unfolding(crate::specs::Mirrors::Naming::naming))]
 fn local(alloc: Global, names: &Names, text: &[u8]) -> Result<Option<(Operand, usize)>, OutOfMemory>
     ensures exact { IfOk result (λ found. found ≡ option_map (λ value. (value, 1)) (operand_in (local_among (naming names.now).locals (local_name text.now)))) }
     ensures one { IfOk result (λ found. IfSome found (λ f. f.1 ≡ 1)) }
@@ -64,7 +64,7 @@ pub fn operand(
 }
 
 /// The name of a block.
-#[tactic(auto, unfolding(crate::specs::Naming::naming))]
+#[tactic(auto, unfolding(crate::specs::Mirrors::Naming::naming))]
 pub fn block(
     alloc: Global,
     names: &Names,

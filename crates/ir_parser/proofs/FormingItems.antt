@@ -1,16 +1,15 @@
 -- An item that entities stand for has the entity's name, and is one that a text can write.
-use Rattle.std.proofs.Common.{◌≡◌, ◌≢◌, ◌∙◌, ℕ, suc, ◌≤◌, Bool, true, false, not, cond, ◌&&◌, ◌||◌, ◌==◌, nat_le, nat_lt, List, [], ◌∷◌, length, map, drop, Option, Some, None, option_map, option_and_then, refl, ap, sym, subst}
+use Rattle.std.proofs.Common.{◌≡◌, ◌≢◌, ◌∙◌, ℕ, suc, ◌≤◌, Bool, true, false, not, cond, ◌&&◌, ◌||◌, nat_le, List, [], ◌∷◌, length, map, drop, Option, Some, None, option_map, option_and_then, refl, ap, sym, subst}
 use Rattle.std.specs.Prelude.{AllPairs, IfSome, IfNone, OnSome, IsNone}
 use Rattle.std.specs.List.{list_all}
-use Rattle.std.proofs.lemmas.Bool.{false≢true, and_parts, ltb-true, leb-true, eqb-false, not-true}
+use Rattle.std.proofs.lemmas.Bool.{false≢true, and_parts, leb-true, not-true}
 use Rattle.std.proofs.lemmas.List.{length-map}
-use Rattle.std.proofs.lemmas.List.Elements.{All-weaker}
-use Rattle.std.proofs.lemmas.List.Sums.{AllPass-from_list_all}
 use Rattle.ir_lexer.specs.Spelled.{is_decimal}
 use Rattle.ir_lexer.specs.Texts.{name_of}
 use Rattle.ir_types.specs.declared.scalar.Scalar.{Scalar}
 use Rattle.ir_types.specs.declared.scalar.Ext.{Ext}
 use Rattle.ir_types.specs.declared.shape.Ty.{Ty}
+use Rattle.ir_types.proofs.Naming.{name-is}
 use Rattle.ir_syntax.specs.declared.constant.Const.{Const}
 use Rattle.ir_syntax.specs.declared.item.Linkage.{Linkage}
 use Rattle.ir_syntax.specs.declared.item.Linkage.TheVariants as linkage
@@ -25,7 +24,7 @@ use Rattle.ir_grammar.specs.declared.shape.Shape.TheVariants as is
 use Rattle.ir_grammar.specs.declared.shape.AtName.TheVariants as at
 use Rattle.ir_grammar.specs.declared.shape.Digits.TheVariants as digits
 use Rattle.ir_grammar.specs.Numbers.{number_of, exponent_of}
-use Rattle.ir_grammar.specs.Walk.{Kept}
+use Rattle.ir_grammar.specs.Tokens.{Kept}
 use Rattle.name_table.specs.Places.{are_distinct}
 use Rattle.ir_scope.specs.Scopes.{Env}
 use Rattle.ir_scope.specs.Types.{written_type}
@@ -40,19 +39,6 @@ use Rattle.ir_operands.proofs.FormingConstants.{constant-suits}
 use Rattle.ir_parser.specs.Items.{first_symbol, item_name_of, last_align, is_constant, is_plain, made_var, valued, var_kind, var_linked, var_of, names_from, params_at, are_params, Head, head_with, head_named, head_returning, head_extended, declared, declaration_of, with_body, defined, head_linked, definition_of, item_of}
 
 -- ---- names
-
-zero-not : (byte : ℕ) → not (byte == 0) ≡ true → byte ≢ 0
-zero-not byte e = eqb-false byte 0 (not-true (byte == 0) e)
-
-name-is : (name : List ℕ) → is_name name ≡ true → IsName name
-name-is name e =
-    let a = and_parts (nat_lt 0 (length name) && nat_le (length name) 4096) (list_all (λ byte. not (byte == 0)) name) e in
-    let b = and_parts (nat_lt 0 (length name)) (nat_le (length name) 4096) a.0 in
-    record {
-      not_empty = ltb-true 0 (length name) b.0;
-      short = leb-true (length name) 4096 b.1;
-      no_zero = All-weaker (λ byte. not (byte == 0) ≡ true) (λ byte. byte ≢ 0) zero-not name (AllPass-from_list_all (λ byte. not (byte == 0)) name a.1);
-    }
 
 plain-name : (name : List ℕ) → is_plain name ≡ true → IsName name × (is_reserved name ≡ false)
 plain-name name e =

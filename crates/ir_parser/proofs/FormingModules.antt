@@ -5,17 +5,18 @@ use Rattle.std.specs.List.{slice_get}
 use Rattle.std.proofs.lemmas.Bool.{eqb-true, false≢true}
 use Rattle.std.proofs.lemmas.List.Elements.{All-nil, All-cons}
 use Rattle.std.proofs.lemmas.Option.{slice_get-get_or}
+use Rattle.ir_types.specs.Names.{is_name}
 use Rattle.ir_syntax.specs.declared.item.Item.{Item}
 use Rattle.ir_syntax.specs.declared.item.Module.{Module}
 use Rattle.ir_syntax.specs.FormedBody.{item_name}
 use Rattle.ir_syntax.specs.FormedItem.{FormedItem}
 use Rattle.ir_syntax.specs.Formed.{Formed}
 use Rattle.ir_grammar.specs.declared.shape.Shape.TheVariants as is
-use Rattle.ir_grammar.specs.Walk.{Kept}
+use Rattle.ir_grammar.specs.Tokens.{Kept}
 use Rattle.name_table.specs.Places.{place_among}
 use Rattle.ir_scope.specs.Scopes.{Env, is_at}
 use Rattle.type_names.specs.TypeNames.{Named, named_type, named_types, is_type_entity}
-use Rattle.ir_parser.specs.Items.{item_name_of, item_of}
+use Rattle.ir_parser.specs.Items.{item_name_of, dropped_name_of, item_of}
 use Rattle.ir_parser.specs.Modules.{symbols_of, env_of, past, item_then, kind_from, items_with, items_from, with_targets, module_of}
 use Rattle.ir_parser.proofs.FormingItems.{IsItem, item-named, item-read}
 
@@ -35,7 +36,7 @@ pub items-all : (env : Env) (types : List Named) (M : List (List Kept) → ℕ �
     ((e : List Kept) (es : List (List Kept)) (j : ℕ) (items : List Item) (name : List ℕ) (i : Item) → item_name_of e ≡ Some name → is_at (place_among name env.symbols) j ≡ true → item_of env name e ≡ Some i → M es (suc j) items → M (e ∷ es) j (i ∷ items)) →
     (es : List (List Kept)) (i j : ℕ) → IfOk (items_from env types es i j) (M es j)
 items-all env types M none skip step [] i j = none j
-items-all env types M none skip step (e ∷ es) i j = cases (items-all env types M none skip step es) (named_type e) refl (item_name_of e) refl
+items-all env types M none skip step (e ∷ es) i j = cases (items-all env types M none skip step es) (named_type e) refl (item_name_of e) refl (dropped_name_of e)
   where
     skipped : item_name_of e ≡ None → (r : Result (List Item) ℕ) → IfOk r (M es j) → IfOk (past r) (M (e ∷ es) j)
     skipped is (Ok items) h = skip e es j items is h
@@ -54,10 +55,11 @@ items-all env types M none skip step (e ∷ es) i j = cases (items-all env types
     item name is true first r h = added name is first (item_of env name e) refl r h
     item name is false first r h = tt
 
-    cases : ((i j : ℕ) → IfOk (items_from env types es i j) (M es j)) → (t : Option Named) → named_type e ≡ t → (n : Option (List ℕ)) → item_name_of e ≡ n → IfOk (items_with env types (items_from env types es) i j e (kind_from t n)) (M (e ∷ es) j)
-    cases ih (Some named) f n g = typed (type-no-item e named f) (is_type_entity types i named) (items_from env types es (suc i) j) (ih (suc i) j)
-    cases ih None f (Some name) g = item name g (is_at (place_among name env.symbols) j) refl (items_from env types es i (suc j)) (ih i (suc j))
-    cases ih None f None g = skipped g (items_from env types es i j) (ih i j)
+    cases : ((i j : ℕ) → IfOk (items_from env types es i j) (M es j)) → (t : Option Named) → named_type e ≡ t → (n : Option (List ℕ)) → item_name_of e ≡ n → (d : Option (List ℕ)) → IfOk (items_with env types (items_from env types es) i j e (kind_from t n d)) (M (e ∷ es) j)
+    cases ih (Some named) f n g d = typed (type-no-item e named f) (is_type_entity types i named) (items_from env types es (suc i) j) (ih (suc i) j)
+    cases ih None f (Some name) g d = item name g (is_at (place_among name env.symbols) j) refl (items_from env types es i (suc j)) (ih i (suc j))
+    cases ih None f None g None = skipped g (items_from env types es i j) (ih i j)
+    cases ih None f None g (Some dropped) = typed g (is_name dropped) (items_from env types es i j) (ih i j)
 
 -- ---- names
 

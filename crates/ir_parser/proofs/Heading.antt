@@ -6,7 +6,7 @@ use Rattle.ir_syntax.specs.declared.item.Linkage.{Linkage}
 use Rattle.ir_syntax.specs.declared.item.Param.{Param}
 use Rattle.ir_syntax.specs.declared.item.Item.{Item}
 use Rattle.ir_syntax.specs.declared.body.Body.{Body}
-use Rattle.ir_grammar.specs.Walk.{Kept}
+use Rattle.ir_grammar.specs.Tokens.{Kept}
 use Rattle.ir_scope.specs.Scopes.{Env}
 use Rattle.ir_body.specs.Bodies.{body_at}
 use Rattle.ir_parser.specs.Items.{Head, is_plain, params_at, names_from, are_params, head_with, with_body, defined}

@@ -1,4 +1,3 @@
-pub mod NameLists
 pub mod Heading
 pub mod Splitting
 pub mod Resolving
@@ -6,3 +5,4 @@ pub mod FormingItems
 pub mod FormingModules
 pub mod OneModule
 pub mod Within
+pub mod Exactly

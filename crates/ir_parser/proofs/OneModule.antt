@@ -1,45 +1,50 @@
 -- A text spells one module at most, and one that spells a module has no cause for a refusal.
-use Rattle.std.proofs.Common.{◌≡◌, ◌∙◌, ℕ, List, [], ◌∷◌, length, drop, None, refl, ap, sym, subst}
+use Rattle.std.proofs.Common.{◌≡◌, ◌∙◌, ℕ, List, [], ◌∷◌, length, drop, refl, ap, sym, subst, arith}
 use Rattle.ir_lexer.specs.declared.token.Token.{Token}
 use Rattle.ir_lexer.specs.Tokens.{Tokens, texts_of}
 use Rattle.ir_syntax.specs.declared.item.Module.{Module}
-use Rattle.ir_grammar.specs.declared.symbol.Symbol.TheVariants as sym
-use Rattle.ir_grammar.specs.Walk.{Piece, walk}
+use Rattle.ir_grammar.specs.declared.grammar.Name.TheVariants as the
+use Rattle.ir_grammar.specs.declared.grammar.Name.{Name}
+use Rattle.ir_grammar.specs.Tokens.{Kept, Piece}
+use Rattle.ir_grammar.specs.Derives.{IsDerived}
 use Rattle.ir_parser.specs.Modules.{module_of}
-use Rattle.ir_parser.specs.Spelled.{Entity, Splits, kept_of, Spells, IsNotSpelled, IsNotResolved, IsNotIn, Spelling, Resolving, IsNotInSubset}
+use Rattle.ir_parser.specs.Spelled.{Entity, IsEntityOf, IsNoEntity, Splits, kept_of, Spells, IsNotSpelled, IsNotResolved, IsNotIn, Spelling, Resolving, IsNotInSubset}
+use Rattle.ir_parser.proofs.Within.{EntityTakesOne}
 
--- No entity is spelled at the front.
-abbrev IsStuck : List Piece → Type 0
-IsStuck pieces = walk (sym.Entity ∷ []) pieces ≡ None
+-- A nonterminal derives one number of the first tokens at most, and one list of lexemes is kept.
+abbrev pub OneDerivation : Type 0
+OneDerivation = (start : Name) (pieces : List Piece) (kept others : List Kept) (taken left : ℕ) → IsDerived start pieces kept taken → IsDerived start pieces others left → (kept ≡ others) × (taken ≡ left)
 
 record AreSame (es fs : List Entity) (rest other : List Piece) : Type 0 where
   pub entities : es ≡ fs
   pub rests : rest ≡ other
 
 -- Tokens are split into entities in one way, up to where none is spelled.
-splits-once : (pieces : List Piece) (es fs : List Entity) (rest other : List Piece) → Splits pieces es rest → Splits pieces fs other → IsStuck rest → IsStuck other → AreSame es fs rest other
-splits-once pieces [] [] rest other s t stuck end = record { entities = refl; rests = sym s ∙ t }
-splits-once pieces [] (f ∷ fs) rest other s t stuck end = let found = t.0 in let none : walk (sym.Entity ∷ []) pieces ≡ None = ap (walk (sym.Entity ∷ [])) s ∙ stuck in absurd (cc)
-splits-once pieces (e ∷ es) [] rest other s t stuck end = let found = s.0 in let none : walk (sym.Entity ∷ []) pieces ≡ None = ap (walk (sym.Entity ∷ [])) t ∙ end in absurd (cc)
-splits-once pieces (e ∷ es) (f ∷ fs) rest other s t stuck end =
-    let one = s.0 in
-    let two = t.0 in
-    let same : e ≡ f = cc in
-    let more = splits-once (drop e.1 pieces) es fs rest other s.1 (subst (λ (g : Entity). Splits (drop g.1 pieces) fs other) (sym same) t.1) stuck end in
+splits-once : OneDerivation → (pieces : List Piece) (es fs : List Entity) (rest other : List Piece) → Splits pieces es rest → Splits pieces fs other → IsNoEntity rest → IsNoEntity other → AreSame es fs rest other
+splits-once one_way pieces [] [] rest other s t stuck end = record { entities = refl; rests = sym s ∙ t }
+splits-once one_way pieces [] (f ∷ fs) rest other s t stuck end = absurd (subst IsNoEntity (sym s) stuck f.0 f.1 t.0)
+splits-once one_way pieces (e ∷ es) [] rest other s t stuck end = absurd (subst IsNoEntity (sym t) end e.0 e.1 s.0)
+splits-once one_way pieces (e ∷ es) (f ∷ fs) rest other s t stuck end =
+    let both = one_way the.Entity pieces e.0 f.0 e.1 f.1 s.0 t.0 in
+    let same : e ≡ f = ap (λ k. (k, e.1)) both.0 ∙ ap (λ n. (f.0, n)) both.1 in
+    let more = splits-once one_way (drop e.1 pieces) es fs rest other s.1 (subst (λ (g : Entity). Splits (drop g.1 pieces) fs other) (sym same) t.1) stuck end in
     record { entities = ap (λ g. g ∷ es) same ∙ ap (λ gs. f ∷ gs) more.entities; rests = more.rests }
 
-nothing : IsStuck []
-nothing = refl
+no_tokens : EntityTakesOne → IsNoEntity []
+no_tokens takes kept taken d = absurd (omega (arith, takes [] kept taken d, d.0))
 
 abbrev pub TokensAreOne : Type 0
 TokensAreOne = (bytes : List ℕ) (ts us : List Token) → Tokens bytes ts → Tokens bytes us → ts ≡ us
 
-module _ (once : TokensAreOne) where
+module _ (once : TokensAreOne) (one_way : OneDerivation) (takes : EntityTakesOne) where
+  nothing : IsNoEntity []
+  nothing = no_tokens takes
+
   abbrev Split : List ℕ → List Token → List Entity → List Piece → Type 0
   Split text ts es rest = Splits (texts_of text ts) es rest
 
-  text-splits : (text : List ℕ) (ts us : List Token) (es fs : List Entity) (rest other : List Piece) → Tokens text ts → Tokens text us → Split text ts es rest → Split text us fs other → IsStuck rest → IsStuck other → AreSame es fs rest other
-  text-splits text ts us es fs rest other tile tiling s t = splits-once (texts_of text ts) es fs rest other s (subst (λ (vs : List Token). Split text vs fs other) (once text us ts tiling tile) t)
+  text-splits : (text : List ℕ) (ts us : List Token) (es fs : List Entity) (rest other : List Piece) → Tokens text ts → Tokens text us → Split text ts es rest → Split text us fs other → IsNoEntity rest → IsNoEntity other → AreSame es fs rest other
+  text-splits text ts us es fs rest other tile tiling s t = splits-once one_way (texts_of text ts) es fs rest other s (subst (λ (vs : List Token). Split text vs fs other) (once text us ts tiling tile) t)
 
   pub one-module : (text : List ℕ) (m n : Module) → Spells text m → Spells text n → m ≡ n
   one-module text m n a b =
@@ -71,12 +76,12 @@ module _ (once : TokensAreOne) where
 
   places-once : (pieces : List Piece) (at other : ℕ) → IsNotIn pieces at → IsNotIn pieces other → at ≡ other
   places-once pieces at other (Spelling a) (Spelling b) =
-      let same = splits-once pieces a.entities b.entities a.rest b.rest a.split b.split a.none b.none in
+      let same = splits-once one_way pieces a.entities b.entities a.rest b.rest a.split b.split a.none b.none in
       sym a.before ∙ ap (length {A = Entity}) same.entities ∙ b.before
-  places-once pieces at other (Spelling a) (Resolving b) = absurd (a.some (splits-once pieces a.entities b.entities a.rest [] a.split b.split a.none nothing).rests)
-  places-once pieces at other (Resolving a) (Spelling b) = absurd (b.some (sym (splits-once pieces a.entities b.entities [] b.rest a.split b.split nothing b.none).rests))
+  places-once pieces at other (Spelling a) (Resolving b) = absurd (a.some (splits-once one_way pieces a.entities b.entities a.rest [] a.split b.split a.none nothing).rests)
+  places-once pieces at other (Resolving a) (Spelling b) = absurd (b.some (sym (splits-once one_way pieces a.entities b.entities [] b.rest a.split b.split nothing b.none).rests))
   places-once pieces at other (Resolving a) (Resolving b) =
-      let same = (splits-once pieces a.entities b.entities [] [] a.split b.split nothing nothing).entities in
+      let same = (splits-once one_way pieces a.entities b.entities [] [] a.split b.split nothing nothing).entities in
       let one = a.first in
       let two = b.first in
       let modules : module_of (kept_of a.entities) ≡ module_of (kept_of b.entities) = ap (λ es. module_of (kept_of es)) same in

@@ -1,12 +1,13 @@
 -- Items, entity by entity.
 use Rattle.std.proofs.Common.{◌≡◌, ◌∙◌, ℕ, zero, suc, ◌+◌, ◌<◌, ◌≤◌, Bool, true, false, cond, List, [], ◌∷◌, ◌++◌, length, drop, get_or, Option, Some, None, Result, Ok, Err, refl, sym, ap, subst, arith, append_assoc, add-one, length-append}
-use Rattle.std.specs.List.{slice_get, filter_map, cons_option}
+use Rattle.std.specs.List.{slice_get, cons_option}
 use Rattle.std.specs.Option.{unwrap_or}
 use Rattle.std.proofs.Math.Path.{fun_ext}
 use Rattle.ir_types.specs.declared.shape.Ty.{Ty}
+use Rattle.ir_types.proofs.ListSteps.{drop_at}
+use Rattle.ir_types.specs.Names.{is_name}
 use Rattle.ir_syntax.specs.declared.item.Item.{Item}
-use Rattle.ir_syntax.specs.declared.item.Module.{Module}
-use Rattle.ir_grammar.specs.Walk.{Kept}
+use Rattle.ir_grammar.specs.Tokens.{Kept}
 use Rattle.ir_scope.specs.Scopes.{Env, Names, type_among}
 use Rattle.ir_scope.specs.Scopes.{env_of as env_in}
 use Rattle.type_names.specs.TypeNames.{Named, named_type, named_types, stands_for, is_type_entity}
@@ -15,10 +16,9 @@ use Rattle.ir_parser.specs.declared.fault.ReadFault.{ReadFault}
 use Rattle.ir_parser.specs.declared.fault.ReadFault.TheVariants.{BadByte, NotInSubset, OutOfMemory}
 use Rattle.ir_parser.specs.declared.items.Resolved.{Resolved}
 use Rattle.ir_parser.specs.declared.items.Resolved.TheVariants as is
-use Rattle.ir_parser.specs.Items.{item_name_of}
-use Rattle.ir_parser.specs.Modules.{Kind, kind_from, kind_of, past, past_item, item_then, first_item, items_with, items_from, symbols_of, env_of, with_targets, module_of, layout_from, triple_from}
-use Rattle.ir_parser.specs.Steps.{item_or, resolved_as, IsItemsCause, IsModuleCause}
-use Rattle.ir_parser.proofs.NameLists.{next}
+use Rattle.ir_parser.specs.Items.{item_name_of, dropped_name_of}
+use Rattle.ir_parser.specs.Modules.{kind_from, kind_of, past, past_item, item_then, first_item, items_with, items_from, symbols_of, env_of, with_targets, module_of, layout_from, triple_from}
+use Rattle.ir_parser.specs.Mirrors.Steps.{item_or, resolved_as, IsItemsCause, IsModuleCause}
 
 -- ---- what was read, and then what is read
 
@@ -46,16 +46,21 @@ then_rest is.Unresolved others i j = Err 0
 abbrev Tells : List Named → ℕ → Bool → Option Named → Type 0
 Tells types i stands o = (t : Named) → o ≡ Some t → stands ≡ is_type_entity types i t
 
-with-kind : (env : Env) (types : List Named) (others : ℕ → ℕ → Result (List Item) ℕ) (i j : ℕ) (e : List Kept) (stands : Bool) (o : Option Named) (name : Option (List ℕ)) → Tells types i stands o →
-    items_with env types others i j e (kind_from o name) ≡ then_rest (resolved_as env stands j e (kind_from o name)) others i j
-with-kind env types others i j e stands (Some t) name tells =
+with-kind : (env : Env) (types : List Named) (others : ℕ → ℕ → Result (List Item) ℕ) (i j : ℕ) (e : List Kept) (stands : Bool) (o : Option Named) (name dropped : Option (List ℕ)) → Tells types i stands o →
+    items_with env types others i j e (kind_from o name dropped) ≡ then_rest (resolved_as env stands j e (kind_from o name dropped)) others i j
+with-kind env types others i j e stands (Some t) name dropped tells =
     typed (is_type_entity types i t) ∙ ap (λ b. then_rest (cond b is.Type is.Unresolved) others i j) (sym (tells t refl))
   where
     typed : (b : Bool) → cond b (past (others (suc i) j)) (Err 0) ≡ then_rest (cond b is.Type is.Unresolved) others i j
     typed true = refl
     typed false = refl
-with-kind env types others i j e stands None None tells = refl
-with-kind env types others i j e stands None (Some name) tells = found (first_item env j name e)
+with-kind env types others i j e stands None None None tells = refl
+with-kind env types others i j e stands None None (Some name) tells = kept (is_name name)
+  where
+    kept : (b : Bool) → cond b (past (others i j)) (Err 0) ≡ then_rest (cond b is.Nothing is.Unresolved) others i j
+    kept true = refl
+    kept false = refl
+with-kind env types others i j e stands None (Some name) dropped tells = found (first_item env j name e)
   where
     found : (o : Option Item) → item_then o (others i (suc j)) ≡ then_rest (item_or o) others i j
     found None = refl
@@ -71,8 +76,8 @@ pub record IsHere (env : Env) (types : List Named) (entities : List (List Kept))
 ahead : (env : Env) (types : List Named) (entities : List (List Kept)) (k i j : ℕ) (e : List Kept) (stands : Bool) (answer : Resolved) → IsHere env types entities k i j e stands answer →
     items_from env types (drop k entities) i j ≡ then_rest answer (items_from env types (drop (k + 1) entities)) i j
 ahead env types entities k i j e stands answer h =
-    ap (λ es. items_from env types es i j) (next entities k e h.within h.here)
-    ∙ with-kind env types (items_from env types (drop (k + 1) entities)) i j e stands (named_type e) (item_name_of e) h.tells
+    ap (λ es. items_from env types es i j) (drop_at entities k e h.within h.here)
+    ∙ with-kind env types (items_from env types (drop (k + 1) entities)) i j e stands (named_type e) (item_name_of e) (dropped_name_of e) h.tells
     ∙ ap (λ r. then_rest r (items_from env types (drop (k + 1) entities)) i j) (sym h.is)
 
 type_more : (env : Env) (types : List Named) (entities : List (List Kept)) (k i : ℕ) (e : List Kept) (stands : Bool) (items : List Item) (answer : Resolved) → IsHere env types entities k i (length items) e stands answer → answer ≡ is.Type →
@@ -109,10 +114,15 @@ unresolved_here env types entities k i e stands items answer h r =
 
 -- ---- named types
 
-type-then : (env : Env) (j : ℕ) (e : List Kept) (stands : Bool) (o : Option Named) (name : Option (List ℕ)) → is.Type ≡ resolved_as env stands j e (kind_from o name) → (t : Named) × (o ≡ Some t)
-type-then env j e stands (Some t) name r = (t, refl)
-type-then env j e stands None None r = cc
-type-then env j e stands None (Some name) r = cases (first_item env j name e) r
+type-then : (env : Env) (j : ℕ) (e : List Kept) (stands : Bool) (o : Option Named) (name dropped : Option (List ℕ)) → is.Type ≡ resolved_as env stands j e (kind_from o name dropped) → (t : Named) × (o ≡ Some t)
+type-then env j e stands (Some t) name dropped r = (t, refl)
+type-then env j e stands None None None r = cc
+type-then env j e stands None None (Some name) r = kept (is_name name) r
+  where
+    kept : (b : Bool) → is.Type ≡ cond b is.Nothing is.Unresolved → (t : Named) × (None ≡ Some t)
+    kept true s = cc
+    kept false s = cc
+type-then env j e stands None (Some name) dropped r = cases (first_item env j name e) r
   where
     cases : (o : Option Item) → is.Type ≡ item_or o → (t : Named) × (None ≡ Some t)
     cases None s = cc
@@ -125,16 +135,16 @@ IsNoType (is.Item item) = Unit {0}
 IsNoType is.Nothing = Unit {0}
 IsNoType is.Unresolved = ⊥
 
-no-type-then : (env : Env) (j : ℕ) (e : List Kept) (stands : Bool) (o : Option Named) (name : Option (List ℕ)) → IsNoType (resolved_as env stands j e (kind_from o name)) → o ≡ None
-no-type-then env j e stands (Some t) name r = cases stands r
+no-type-then : (env : Env) (j : ℕ) (e : List Kept) (stands : Bool) (o : Option Named) (name dropped : Option (List ℕ)) → IsNoType (resolved_as env stands j e (kind_from o name dropped)) → o ≡ None
+no-type-then env j e stands (Some t) name dropped r = cases stands r
   where
     cases : (b : Bool) → IsNoType (cond b is.Type is.Unresolved) → Some t ≡ None
     cases true s = absurd s
     cases false s = absurd s
-no-type-then env j e stands None name r = refl
+no-type-then env j e stands None name dropped r = refl
 
 types-ahead : (entities : List (List Kept)) (k : ℕ) (e : List Kept) (o : Option Named) → k < length entities → e ≡ get_or entities k e → named_type e ≡ o → named_types (drop k entities) ≡ cons_option o (named_types (drop (k + 1) entities))
-types-ahead entities k e o within here n = ap named_types (next entities k e within here) ∙ ap (λ p. cons_option p (named_types (drop (k + 1) entities))) n
+types-ahead entities k e o within here n = ap named_types (drop_at entities k e within here) ∙ ap (λ p. cons_option p (named_types (drop (k + 1) entities))) n
 
 drop-next : (ts : List Named) (i : ℕ) (t : Named) (rest : List Named) → drop i ts ≡ t ∷ rest → drop (suc i) ts ≡ rest
 drop-next [] zero t rest e = cc
@@ -145,13 +155,13 @@ drop-next (x ∷ ts) (suc i) t rest e = drop-next ts i t rest e
 types_next : (env : Env) (types : List Named) (entities : List (List Kept)) (k i j : ℕ) (e : List Kept) (stands : Bool) (answer : Resolved) → IsHere env types entities k i j e stands answer → answer ≡ is.Type → drop i types ≡ named_types (drop k entities) →
     drop (i + 1) types ≡ named_types (drop (k + 1) entities)
 types_next env types entities k i j e stands answer h r so_far =
-    let (t, n) = type-then env j e stands (named_type e) (item_name_of e) (sym r ∙ h.is) in
+    let (t, n) = type-then env j e stands (named_type e) (item_name_of e) (dropped_name_of e) (sym r ∙ h.is) in
     ap (λ m. drop m types) (add-one i) ∙ drop-next types i t (named_types (drop (k + 1) entities)) (so_far ∙ types-ahead entities k e (Some t) h.within h.here n)
 
 types_same : (env : Env) (types : List Named) (entities : List (List Kept)) (k i j : ℕ) (e : List Kept) (stands : Bool) (answer : Resolved) → IsHere env types entities k i j e stands answer → IsNoType answer → drop i types ≡ named_types (drop k entities) →
     drop i types ≡ named_types (drop (k + 1) entities)
 types_same env types entities k i j e stands answer h r so_far =
-    so_far ∙ types-ahead entities k e None h.within h.here (no-type-then env j e stands (named_type e) (item_name_of e) (subst IsNoType h.is r))
+    so_far ∙ types-ahead entities k e None h.within h.here (no-type-then env j e stands (named_type e) (item_name_of e) (dropped_name_of e) (subst IsNoType h.is r))
 
 placed : (all ts : List Named) (i p : ℕ) (t : Named) (rest : List Named) → drop i ts ≡ t ∷ rest → slice_get (entities_from all p ts) i ≡ Some (is_type_entity all (p + i) t)
 placed all [] zero p t rest e = cc

@@ -5,8 +5,9 @@ use Rattle.ir_lexer.specs.declared.token.Token.{Token}
 use Rattle.ir_lexer.specs.Tokens.{InOrder, texts_of, text_of}
 use Rattle.ir_lexer.proofs.Tilings.{tokens_in_order}
 use Rattle.ir_syntax.specs.declared.item.Module.{Module}
-use Rattle.ir_grammar.specs.declared.symbol.Symbol.TheVariants as sym
-use Rattle.ir_grammar.specs.Walk.{Piece, Kept, walk}
+use Rattle.ir_grammar.specs.declared.grammar.Name.TheVariants as the
+use Rattle.ir_grammar.specs.Tokens.{Piece, Kept}
+use Rattle.ir_grammar.specs.Derives.{IsDerived}
 use Rattle.type_names.specs.TypeNames.{named_types}
 use Rattle.ir_parser.specs.Modules.{env_of}
 use Rattle.ir_parser.specs.Spelled.{Entity, Splits, kept_of, Spells}
@@ -16,17 +17,13 @@ use Rattle.ir_parser.proofs.FormingModules.{items-few, module-items}
 
 -- An entity takes a token at least.
 abbrev pub EntityTakesOne : Type 0
-EntityTakesOne = (pieces : List Piece) (found : List Kept × ℕ) → walk (sym.Entity ∷ []) pieces ≡ Some found → 0 < found.1
-
-some-piece : (pieces : List Piece) (e : Entity) → walk (sym.Entity ∷ []) pieces ≡ Some e → 0 < length pieces
-some-piece [] e is = cc
-some-piece (p ∷ ps) e is = omega arith
+EntityTakesOne = (pieces : List Piece) (kept : List Kept) (taken : ℕ) → IsDerived the.Entity pieces kept taken → 0 < taken
 
 entities-few : EntityTakesOne → (pieces : List Piece) (es : List Entity) → Splits pieces es [] → length es ≤ length pieces
 entities-few one pieces [] s = omega arith
 entities-few one pieces (e ∷ es) s =
-    let taken = one pieces e s.0 in
-    let some = some-piece pieces e s.0 in
+    let taken = one pieces e.0 e.1 s.0 in
+    let some = s.0.0 in
     let more = entities-few one (drop e.1 pieces) es s.1 in
     omega (arith, length-drop e.1 pieces)
 

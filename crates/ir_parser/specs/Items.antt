@@ -24,7 +24,7 @@ use Rattle.ir_grammar.specs.declared.shape.Shape.TheVariants as is
 use Rattle.ir_grammar.specs.declared.shape.AtName.TheVariants as at
 use Rattle.ir_grammar.specs.declared.shape.Digits.TheVariants as digits
 use Rattle.ir_grammar.specs.Numbers.{number_of, exponent_of}
-use Rattle.ir_grammar.specs.Walk.{Kept}
+use Rattle.ir_grammar.specs.Tokens.{Kept}
 use Rattle.ir_scope.specs.Runs.{Reading, behind, runs, closed_by}
 use Rattle.ir_scope.specs.Scopes.{Env}
 use Rattle.ir_scope.specs.Types.{written_type}
@@ -48,6 +48,18 @@ item_name_of ((is.At kind, text) ∷ ks) = Some (name_of (drop 1 text))
 item_name_of ((is.Declare, text) ∷ ks) = first_symbol ks
 item_name_of ((is.Define, text) ∷ ks) = first_symbol ks
 item_name_of _ = None
+
+-- the name after the first @, where it is one of debug information
+abbrev pub debug_symbol : List Kept → Option (List ℕ)
+debug_symbol [] = None
+debug_symbol ((is.At at.Debug, text) ∷ ks) = Some (name_of (drop 1 text))
+debug_symbol ((is.At kind, text) ∷ ks) = None
+debug_symbol (k ∷ ks) = debug_symbol ks
+
+-- The name of a declaration that is dropped, where an entity is one: it declares a name of debug information.
+abbrev pub dropped_name_of : List Kept → Option (List ℕ)
+dropped_name_of ((is.Declare, text) ∷ ks) = debug_symbol ks
+dropped_name_of _ = None
 
 -- ---- variables
 

@@ -1,4 +1,4 @@
 pub mod Items
 pub mod Modules
 pub mod Spelled
-pub mod Steps
+pub mod Mirrors

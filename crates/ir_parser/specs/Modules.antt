@@ -2,16 +2,17 @@
 use Rattle.std.specs.Prelude.{ℕ, suc, Bool, List, [], ◌∷◌, Option, Some, None, option_map, Result, Ok, Err, if◌then◌else◌}
 use Rattle.std.specs.List.{filter_map}
 use Rattle.ir_lexer.specs.Texts.{inside, unescaped}
+use Rattle.ir_types.specs.Names.{is_name}
 use Rattle.ir_syntax.specs.declared.item.Item.{Item}
 use Rattle.ir_syntax.specs.declared.item.Module.{Module}
 use Rattle.name_table.specs.Places.{place_among}
 use Rattle.ir_grammar.specs.declared.shape.Shape.{Shape}
 use Rattle.ir_grammar.specs.declared.shape.Shape.TheVariants as is
 use Rattle.ir_grammar.specs.declared.shape.Free.TheVariants as free
-use Rattle.ir_grammar.specs.Walk.{Kept}
+use Rattle.ir_grammar.specs.Tokens.{Kept}
 use Rattle.ir_scope.specs.Scopes.{Env, is_at}
 use Rattle.type_names.specs.TypeNames.{Named, named_type, named_types, stands_for, is_type_entity}
-use Rattle.ir_parser.specs.Items.{item_name_of, item_of}
+use Rattle.ir_parser.specs.Items.{item_name_of, dropped_name_of, item_of}
 
 -- the items' names, in their order
 abbrev pub symbols_of : List (List Kept) → List (List ℕ)
@@ -56,29 +57,35 @@ item_then (Some i) others = past_item i others
 abbrev pub first_item : Env → ℕ → List ℕ → List Kept → Option Item
 first_item env place name e = if is_at (place_among name env.symbols) place then item_of env name e else None
 
--- what an entity is: a named type, an item, or neither
+-- what an entity is: a named type, an item, a declaration that is dropped, or none of these
 pub data Kind : Type 0 where
   OfType : (named : Named) → Kind
   OfItem : (name : List ℕ) → Kind
-  Neither : Kind
+  OfDropped : (name : List ℕ) → Kind
+  OfNone : Kind
 
-abbrev pub or_item : Option (List ℕ) → Kind
-or_item None = Neither
-or_item (Some name) = OfItem name
+abbrev pub or_dropped : Option (List ℕ) → Kind
+or_dropped None = OfNone
+or_dropped (Some name) = OfDropped name
 
-abbrev pub kind_from : Option Named → Option (List ℕ) → Kind
-kind_from (Some named) name = OfType named
-kind_from None name = or_item name
+abbrev pub or_item : Option (List ℕ) → Option (List ℕ) → Kind
+or_item None dropped = or_dropped dropped
+or_item (Some name) dropped = OfItem name
+
+abbrev pub kind_from : Option Named → Option (List ℕ) → Option (List ℕ) → Kind
+kind_from (Some named) name dropped = OfType named
+kind_from None name dropped = or_item name dropped
 
 abbrev pub kind_of : List Kept → Kind
-kind_of e = kind_from (named_type e) (item_name_of e)
+kind_of e = kind_from (named_type e) (item_name_of e) (dropped_name_of e)
 
 -- The items of entities, over so many named types and items before them; or the place of the first entity whose names
--- or constants don't resolve.
+-- or constants don't resolve. The name of a declaration that is dropped keeps the limits on names like every other.
 abbrev pub items_with : Env → List Named → (ℕ → ℕ → Result (List Item) ℕ) → ℕ → ℕ → List Kept → Kind → Result (List Item) ℕ
 items_with env types others i j e (OfType named) = if is_type_entity types i named then past (others (suc i) j) else Err 0
 items_with env types others i j e (OfItem name) = item_then (first_item env j name e) (others i (suc j))
-items_with env types others i j e Neither = past (others i j)
+items_with env types others i j e (OfDropped name) = if is_name name then past (others i j) else Err 0
+items_with env types others i j e OfNone = past (others i j)
 
 abbrev pub items_from : Env → List Named → List (List Kept) → ℕ → ℕ → Result (List Item) ℕ
 items_from env types [] i j = Ok []

@@ -1,11 +1,11 @@
 //! The entities of a module, token by token.
 ghost use Rattle.std.specs.Prelude.{◌≡◌, [], length, IfOk, IfErr};
 ghost use Rattle.ir_lexer.specs.Tokens.{texts_of};
-ghost use Rattle.ir_grammar.specs.Walk.{seen};
-ghost use Rattle.ir_parser.specs.Steps.{AreEntities, IsSplitCause};
+ghost use Rattle.ir_grammar.specs.Tokens.{seen};
+ghost use Rattle.ir_parser.specs.Mirrors.Steps.{AreEntities, IsSplitCause};
 
 use crate::fault::ReadFault;
-use ir_grammar::{Lexeme, Symbol, entity_takes_one, walk};
+use ir_grammar::{Lexeme, Name, entity_takes_one, read_nonterminal};
 use ir_lexer::Token;
 use sqlite_items::Items as List;
 use std::alloc::Global;
@@ -19,7 +19,7 @@ pub(crate) struct Entity<'a> {
 
 impl<'a> Model for Entity<'a> {
     ghost use Rattle.std.specs.Prelude.{List};
-    ghost use Rattle.ir_grammar.specs.Walk.{Kept, seen};
+    ghost use Rattle.ir_grammar.specs.Tokens.{Kept, seen};
 
     ghost Value = { List Kept };
 
@@ -48,7 +48,7 @@ pub(crate) fn split<'a>(
     let mut entities = List::new(alloc);
     let mut from = 0;
     'splitting: while from < tokens.len() {
-        match walk(alloc, bytes, tokens, from, Symbol::Entity)? {
+        match read_nonterminal(alloc, bytes, tokens, from, Name::Entity)? {
             Some((kept, next)) => {
                 entities.push(Entity { kept })?;
                 from = next;

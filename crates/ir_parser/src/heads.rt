@@ -1,10 +1,10 @@
 //! Declarations and definitions of functions.
 ghost use Rattle.std.specs.Prelude.{◌≡◌, ◌&&◌, not, IfOk, option_map};
 ghost use Rattle.ir_syntax.specs.FormedItem.{is_reserved};
-ghost use Rattle.ir_grammar.specs.Walk.{seen};
+ghost use Rattle.ir_grammar.specs.Tokens.{seen};
 ghost use Rattle.ir_scope.specs.Scopes.{env_of};
 ghost use Rattle.ir_parser.specs.Items.{is_plain, head_with, head_named, head_returning, head_extended, head_linked, declared, declaration_of, with_body, defined, definition_of};
-ghost use Rattle.ir_parser.specs.Steps.{head_of};
+ghost use Rattle.ir_parser.specs.Mirrors.Steps.{head_of};
 
 use crate::params::{are_params, names, params, types};
 use crate::spelling::name;

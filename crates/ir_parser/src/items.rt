@@ -1,12 +1,12 @@
 //! The items of a module, entity by entity.
 ghost use Rattle.std.specs.Prelude.{◌≡◌, List, true, false, is_some, slice_get, unwrap_or, option_map, Ok, IfOk, IfErr};
-ghost use Rattle.ir_grammar.specs.Walk.{Kept, seen};
+ghost use Rattle.ir_grammar.specs.Tokens.{Kept, seen};
 ghost use Rattle.ir_scope.specs.Scopes.{env_of};
 ghost use Rattle.type_names.specs.TypeNames.{named_type, named_types};
 ghost use Rattle.type_names.specs.Written.{named_of, named, type_entities};
-ghost use Rattle.ir_parser.specs.Items.{first_symbol, item_name_of, item_of};
+ghost use Rattle.ir_parser.specs.Items.{first_symbol, debug_symbol, item_name_of, dropped_name_of, item_of};
 ghost use Rattle.ir_parser.specs.Modules.{symbols_of, first_item, kind_of, items_from};
-ghost use Rattle.ir_parser.specs.Steps.{resolved_as, IsItemsCause};
+ghost use Rattle.ir_parser.specs.Mirrors.Steps.{resolved_as, nothing_or, IsItemsCause};
 
 use crate::entities::Entity;
 use crate::fault::ReadFault;
@@ -16,7 +16,7 @@ use crate::variables::variable;
 use ir_grammar::{AtName, Lexeme, Shape};
 use ir_scope::Scope;
 use ir_syntax::Item;
-use ir_types::{Bytes, OutOfMemory};
+use ir_types::{Bytes, OutOfMemory, is_name};
 use sqlite_items::Items as List;
 use std::alloc::Global;
 use type_names::{ExpandedTypes, NamedType};
@@ -28,9 +28,9 @@ pub(crate) enum Resolved {
     Type,
     /// A variable or a function.
     Item(Item),
-    /// Neither.
+    /// None of these.
     Nothing,
-    /// Its names or constants don't resolve.
+    /// Its names or constants don't resolve, or the name of a declaration that is dropped breaks the limits on names.
     Unresolved,
 }
 
@@ -57,6 +57,33 @@ fn item_name(alloc: Global, kept: &[Lexeme]) -> Result<Option<Bytes>, OutOfMemor
             Shape::At(_) => Ok(Some(name(alloc, first.text)?)),
             Shape::Declare => first_symbol(alloc, rest),
             Shape::Define => first_symbol(alloc, rest),
+            _ => Ok(None),
+        },
+        [] => Ok(None),
+    }
+}
+
+/// The first name behind `@`, where it is one of debug information.
+fn debug_symbol(alloc: Global, kept: &[Lexeme]) -> Result<Option<Bytes>, OutOfMemory>
+    ensures { IfOk result (λ found. found ≡ debug_symbol (seen kept.now)) }
+{
+    for lexeme in kept {
+        match lexeme.shape {
+            Shape::At(AtName::Debug) => return Ok(Some(name(alloc, lexeme.text)?)),
+            Shape::At(_) => return Ok(None),
+            _ => {}
+        }
+    }
+    Ok(None)
+}
+
+/// The name of the declaration that an entity is, where it is one that is dropped.
+fn dropped_name(alloc: Global, kept: &[Lexeme]) -> Result<Option<Bytes>, OutOfMemory>
+    ensures { IfOk result (λ found. found ≡ dropped_name_of (seen kept.now)) }
+{
+    match kept {
+        [first, rest @ ..] => match first.shape {
+            Shape::Declare => debug_symbol(alloc, rest),
             _ => Ok(None),
         },
         [] => Ok(None),
@@ -165,6 +192,23 @@ fn first_item(
     }
 }
 
+/// What an entity is that is neither a named type nor an item: nothing, unless it is a declaration that is dropped and its
+/// name breaks the limits on names.
+fn nothing_or(alloc: Global, kept: &[Lexeme]) -> Result<Resolved, OutOfMemory>
+    ensures { IfOk result (λ resolved. resolved ≡ nothing_or (dropped_name_of (seen kept.now))) }
+{
+    match dropped_name(alloc, kept)? {
+        Some(name) => {
+            if is_name(name.as_slice()) {
+                Ok(Resolved::Nothing)
+            } else {
+                Ok(Resolved::Unresolved)
+            }
+        }
+        None => Ok(Resolved::Nothing),
+    }
+}
+
 /// What an entity is behind so many items. A named type is one that the module may have, or not.
 fn resolve(
     alloc: Global,
@@ -187,7 +231,7 @@ fn resolve(
             Some(item) => Ok(Resolved::Item(item)),
             None => Ok(Resolved::Unresolved),
         },
-        None => Ok(Resolved::Nothing),
+        None => nothing_or(alloc, kept),
     }
 }
 

@@ -5,7 +5,7 @@ ghost use Rattle.ir_syntax.specs.declared.item.Module.{Module};
 ghost use Rattle.ir_syntax.specs.Formed.{Formed};
 ghost use Rattle.ir_parser.specs.Spelled.{Spells, IsNotInSubset};
 
-use ir_grammar::entity_takes_one;
+use ir_grammar::{entity_takes_one, one_derivation};
 use ir_lexer::{tokens_are_one, tokens_or_bad_byte};
 
 /// A module that a text spells is one that a text can write.
@@ -18,6 +18,8 @@ pub fn a_text_spells_one_module()
     ensures { (text : List ℕ) (m n : Module) → Spells text m → Spells text n → m ≡ n }
 {
     tokens_are_one();
+    one_derivation();
+    entity_takes_one();
 }
 
 /// A module has at most as many items as its text has bytes.
@@ -33,6 +35,8 @@ pub fn a_spelled_text_has_no_cause()
     ensures in_subset { (text : List ℕ) (m : Module) (entity : ℕ) → Spells text m → IsNotInSubset text entity → ⊥ }
 {
     tokens_are_one();
+    one_derivation();
+    entity_takes_one();
     tokens_or_bad_byte();
 }
 
@@ -42,5 +46,7 @@ pub fn the_cause_is_one_entity()
     ensures no_bad_byte { (text : List ℕ) (entity at : ℕ) → IsNotInSubset text entity → IsBadByte text at → ⊥ }
 {
     tokens_are_one();
+    one_derivation();
+    entity_takes_one();
     tokens_or_bad_byte();
 }

@@ -2,12 +2,12 @@
 ghost use Rattle.std.specs.Prelude.{◌≡◌, ◌≤◌, length, map, true, false, IfOk, IfSome};
 ghost use Rattle.std.specs.List.{list_all};
 ghost use Rattle.name_table.specs.Places.{are_distinct};
-ghost use Rattle.ir_grammar.specs.Walk.{seen};
+ghost use Rattle.ir_grammar.specs.Tokens.{seen};
 ghost use Rattle.ir_scope.specs.Runs.{runs};
 ghost use Rattle.ir_types.specs.Names.{is_name};
 ghost use Rattle.ir_operands.specs.Marks.{is_scalar};
 ghost use Rattle.ir_parser.specs.Items.{named_at, param_at, params_at, names_from, are_params};
-ghost use Rattle.ir_parser.specs.Steps.{name_or, counts};
+ghost use Rattle.ir_parser.specs.Mirrors.Steps.{name_or, counts};
 
 use crate::spelling::name;
 use ir_grammar::{Lexeme, Shape};

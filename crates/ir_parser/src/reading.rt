@@ -1,15 +1,19 @@
 //! From the text of a module to the module.
-ghost use Rattle.std.specs.Prelude.{◌≡◌, Ok, IfOk, IfErr};
+ghost use Rattle.std.specs.Prelude.{◌≡◌, ◌⊎◌, Result, Ok, Err, IfOk, IfErr};
 ghost use Rattle.ir_lexer.specs.Tokens.{Tokens};
 ghost use Rattle.ir_parser.specs.Modules.{module_of};
-ghost use Rattle.ir_parser.specs.Spelled.{Spells, IsCause};
-ghost use Rattle.ir_parser.specs.Steps.{IsLexCause, IsModuleCause};
+ghost use Rattle.ir_syntax.specs.declared.item.Module.{Module};
+ghost use Rattle.ir_parser.specs.declared.fault.ReadFault.{ReadFault};
+ghost use Rattle.ir_parser.specs.declared.fault.ReadFault.TheVariants as fault;
+ghost use Rattle.ir_parser.specs.Spelled.{Spells, IsCause, IsRead};
+ghost use Rattle.ir_parser.specs.Mirrors.Steps.{IsLexCause, IsModuleCause};
 
 use crate::entities::{Entity, split};
 use crate::fault::ReadFault;
 use crate::items::{items, symbols, types_in};
+use crate::laws::{a_spelled_text_has_no_cause, a_text_spells_one_module, the_cause_is_one_entity};
 use crate::targets::{layout, triple};
-use ir_lexer::{LexFault, Token, lex};
+use ir_lexer::{LexFault, Token, bad_byte_is_one, lex, tokens_or_bad_byte};
 use ir_syntax::Module;
 use sqlite_items::Items as List;
 use std::alloc::Global;
@@ -64,14 +68,21 @@ fn module_of(alloc: Global, entities: &[Entity]) -> Result<Module, ReadFault>
 ///   and stands for no type, as it reaches itself, names one that is opaque or isn't there, nests more than 64 deep or
 ///   has more than 4,096 nodes. An item whose name another had before. An item whose name, or the name of one of its
 ///   parameters, registers or blocks, isn't of 1 to 4,096 bytes, none of them zero, or is doubled among these. A
+///   declaration that is dropped, or a definition with a call that is dropped, whose name breaks these limits. A
 ///   definition or a variable whose name begins with `llvm.`, and a declaration of such a name other than the intrinsics
-///   that copy and fill memory. More than 32 parameters. A type, a constant or a body whose names stand for nothing, or
-///   which doesn't fit where it is written.
+///   that copy and fill memory. More than 32 parameters. A type, a constant or a body whose names stand for nothing, as
+///   each name does that breaks these limits, or which doesn't fit where it is written.
 /// - `OutOfMemory` comes where the allocator refuses memory.
 pub fn read_module(alloc: Global, bytes: &[u8]) -> Result<Module, ReadFault>
     ensures spelled { IfOk result (λ m. Spells bytes.now m) }
     ensures refused { IfErr result (λ fault. IsCause bytes.now fault) }
+    ensures exact { (read : Result Module ReadFault) → IsRead bytes.now read → (result ≡ read) ⊎ (result ≡ Err fault.OutOfMemory) }
 {
+    tokens_or_bad_byte();
+    bad_byte_is_one();
+    a_text_spells_one_module();
+    a_spelled_text_has_no_cause();
+    the_cause_is_one_entity();
     let entities = {
         let tokens = tokens(alloc, bytes)?;
         split(alloc, bytes, tokens.as_slice())?

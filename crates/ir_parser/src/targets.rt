@@ -1,6 +1,6 @@
 //! The data layout and the target triple of a module.
 ghost use Rattle.std.specs.Prelude.{◌≡◌, ◌∷◌, List, None, IfOk};
-ghost use Rattle.ir_grammar.specs.Walk.{Kept, seen};
+ghost use Rattle.ir_grammar.specs.Tokens.{Kept, seen};
 ghost use Rattle.ir_parser.specs.Modules.{string_of, layout_from, triple_from};
 
 use crate::entities::Entity;

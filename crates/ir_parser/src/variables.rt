@@ -1,6 +1,6 @@
 //! Variables.
 ghost use Rattle.std.specs.Prelude.{◌≡◌, None, IfOk};
-ghost use Rattle.ir_grammar.specs.Walk.{seen};
+ghost use Rattle.ir_grammar.specs.Tokens.{seen};
 ghost use Rattle.ir_scope.specs.Scopes.{env_of};
 ghost use Rattle.ir_parser.specs.Items.{last_align, is_constant, made_var, valued, var_kind, var_linked, var_of};
 

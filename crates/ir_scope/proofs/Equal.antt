@@ -1,7 +1,6 @@
 -- Types that are one.
-use Rattle.std.proofs.Common.{◌≡◌, ◌≢◌, ◌∙◌, ℕ, suc, Bool, true, false, ◌&&◌, nat_eq, List, [], ◌∷◌, map, length, refl, sym, ap, subst, arith}
-use Rattle.std.specs.Prelude.{IsTrue}
-use Rattle.std.proofs.lemmas.Bool.{false≢true}
+use Rattle.std.proofs.Common.{◌≡◌, ◌≢◌, ◌∙◌, ℕ, suc, Bool, true, false, ◌&&◌, nat_eq, List, [], ◌∷◌, map, length, refl, sym, ap, arith}
+use Rattle.std.proofs.lemmas.Bool.{false≢true, and_parts, and_from, and_right}
 use Rattle.std.proofs.lemmas.Bool.Decides.{nat_tests}
 use Rattle.ir_types.specs.declared.scalar.Scalar.{Scalar}
 use Rattle.ir_types.specs.declared.scalar.Scalar.TheVariants.{I1, I8, I16, I32, I64, Ptr}
@@ -12,7 +11,7 @@ use Rattle.ir_types.specs.declared.shape.Ty.TheViews.{Array, Struct, roll-Ty, ro
 use Rattle.ir_types.specs.declared.shape.Ty.TheVariants.{outs-One, outs-Array, outs-Struct}
 use Rattle.ir_types.specs.declared.shape.Ty.TheFolds.{map-Ty, fold_out-Ty, ind-Ty}
 use Rattle.ir_syntax.specs.Suits.{each_takes}
-use Rattle.ir_grammar.specs.Scalars.{same}
+use Rattle.ir_types.specs.Scalars.{same}
 use Rattle.ir_scope.specs.Types.{same_type, same_shape}
 
 -- by the layers of both
@@ -36,11 +35,7 @@ pub lengths_differ : (f : Ty → Ty → Bool) (xs ys : List Ty) → length xs �
 lengths_differ f [] [] differ = absurd (differ refl)
 lengths_differ f [] (y ∷ ys) differ = refl
 lengths_differ f (x ∷ xs) [] differ = refl
-lengths_differ f (x ∷ xs) (y ∷ ys) differ = ap (λ b. f x y && b) (lengths_differ f xs ys (λ e. differ (ap suc e))) ∙ and_false (f x y)
-  where
-    and_false : (b : Bool) → (b && false) ≡ false
-    and_false true = refl
-    and_false false = refl
+lengths_differ f (x ∷ xs) (y ∷ ys) differ = ap (λ b. f x y && b) (lengths_differ f xs ys (λ e. differ (ap suc e))) ∙ and_right (f x y) false refl
 
 -- ---- arrays
 
@@ -73,18 +68,6 @@ scalar_same I32 = refl
 scalar_same I64 = refl
 scalar_same Ptr = refl
 
-and_left : (b c : Bool) → (b && c) ≡ true → b ≡ true
-and_left true c e = refl
-and_left false c e = e
-
-and_right : (b c : Bool) → (b && c) ≡ true → c ≡ true
-and_right true c e = e
-and_right false c e = cc
-
-and_both : (b c : Bool) → b ≡ true → c ≡ true → (b && c) ≡ true
-and_both true c e f = f
-and_both false c e f = e
-
 number_equal : (n m : ℕ) → nat_eq n m ≡ true → n ≡ m
 number_equal n m e = grind (arith, nat_tests, e)
 
@@ -104,9 +87,8 @@ fields_equal [] (u ∷ us) e = absurd (false≢true e)
 fields_equal (f ∷ fs) [] e = absurd (false≢true e)
 fields_equal (f ∷ fs) (u ∷ us) e =
     let rest = each_takes (map same_type (map (λ (g : Shown). g.0) fs)) us in
-    let first = f.1 u (and_left (same_type f.0 u) rest e) in
-    let more = fields_equal fs us (and_right (same_type f.0 u) rest e) in
-    ap (λ t. t ∷ map (λ (g : Shown). g.0) fs) first ∙ ap (λ ts. u ∷ ts) more
+    let (first, others) = and_parts (same_type f.0 u) rest e in
+    ap (λ t. t ∷ map (λ (g : Shown). g.0) fs) (f.1 u first) ∙ ap (λ ts. u ∷ ts) (fields_equal fs us others)
 
 layer_equal : (y : Ty-F Shown) (z : Ty-F Ty) → same_shape (map-Ty Ty (Ty → Bool) same_type (map-Ty Shown Ty (λ f. f.0) y)) z ≡ true → map-Ty Shown Ty (λ f. f.0) y ≡ z
 layer_equal (Ty-F.One s) (Ty-F.One t) e = ap (λ r. Ty-F.One r) (scalar_equal s t e)
@@ -114,9 +96,8 @@ layer_equal (Ty-F.One s) (Ty-F.Array m u) e = absurd (false≢true e)
 layer_equal (Ty-F.One s) (Ty-F.Struct us) e = absurd (false≢true e)
 layer_equal (Ty-F.Array n f) (Ty-F.One t) e = absurd (false≢true e)
 layer_equal (Ty-F.Array n f) (Ty-F.Array m u) e =
-    let count = number_equal n m (and_left (nat_eq n m) (same_type f.0 u) e) in
-    let element = f.1 u (and_right (nat_eq n m) (same_type f.0 u) e) in
-    ap (λ k. Ty-F.Array k f.0) count ∙ ap (λ t. Ty-F.Array m t) element
+    let (counts, elements) = and_parts (nat_eq n m) (same_type f.0 u) e in
+    ap (λ k. Ty-F.Array k f.0) (number_equal n m counts) ∙ ap (λ t. Ty-F.Array m t) (f.1 u elements)
 layer_equal (Ty-F.Array n f) (Ty-F.Struct us) e = absurd (false≢true e)
 layer_equal (Ty-F.Struct fs) (Ty-F.One t) e = absurd (false≢true e)
 layer_equal (Ty-F.Struct fs) (Ty-F.Array m u) e = absurd (false≢true e)
@@ -139,11 +120,11 @@ Kept = (t : Ty) × IsSame t
 
 fields_same : (fs : List Kept) → each_takes (map same_type (map (λ f. f.0) fs)) (map (λ f. f.0) fs) ≡ true
 fields_same [] = refl
-fields_same (f ∷ fs) = and_both (same_type f.0 f.0) (each_takes (map same_type (map (λ (g : Kept). g.0) fs)) (map (λ (g : Kept). g.0) fs)) f.1 (fields_same fs)
+fields_same (f ∷ fs) = and_from (same_type f.0 f.0) (each_takes (map same_type (map (λ (g : Kept). g.0) fs)) (map (λ (g : Kept). g.0) fs)) f.1 (fields_same fs)
 
 layer_same : (y : Ty-F Kept) → same_shape (map-Ty Ty (Ty → Bool) same_type (map-Ty Kept Ty (λ f. f.0) y)) (map-Ty Kept Ty (λ f. f.0) y) ≡ true
 layer_same (Ty-F.One s) = scalar_same s
-layer_same (Ty-F.Array n f) = and_both (nat_eq n n) (same_type f.0 f.0) (number_same n) f.1
+layer_same (Ty-F.Array n f) = and_from (nat_eq n n) (same_type f.0 f.0) (number_same n) f.1
 layer_same (Ty-F.Struct fs) = fields_same fs
 
 pub same_itself : (a : Ty) → IsSame a

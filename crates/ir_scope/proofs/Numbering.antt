@@ -4,7 +4,7 @@ use Rattle.std.specs.Prelude.{fold}
 use Rattle.std.proofs.Math.Nat.{mod_self, mod-eq_of_lt}
 use Rattle.std.proofs.lemmas.Bool.Decides.{nat_tests}
 use Rattle.ir_grammar.specs.Numbers.{number_of}
-use Rattle.ir_scope.specs.Halves.{number_below, negated}
+use Rattle.ir_scope.specs.Mirrors.Halves.{number_below, negated}
 
 pub is_less : (n k : ℕ) → n < k → nat_lt n k ≡ true
 is_less n k less = grind (arith, nat_tests, less)

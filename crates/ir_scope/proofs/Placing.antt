@@ -1,92 +1,17 @@
 -- Names with their first places, when one more name comes.
-use Rattle.std.proofs.Common.{◌≡◌, ◌∙◌, ℕ, ◌+◌, ◌<◌, ◌≤◌, suc, zero, Bool, true, false, cond, not, ◌&&◌, List, [], ◌∷◌, ◌++◌, length, map, take, Option, Some, None, option_map, bytes_eq, refl, sym, ap, subst, arith, length-append}
-use Rattle.std.specs.Prelude.{IsTrue, unwrap_or, is_some}
+use Rattle.std.proofs.Common.{◌≡◌, ◌∙◌, ℕ, ◌<◌, suc, zero, Bool, true, false, cond, List, [], ◌∷◌, ◌++◌, length, map, take, Option, Some, None, option_map, bytes_eq, refl, sym, ap, subst, arith, length-append}
+use Rattle.std.specs.Prelude.{unwrap_or, is_some}
 use Rattle.std.specs.Map.{lookup}
 use Rattle.indexmap.specs.IndexMap.{insert_entry}
 use Rattle.std.specs.List.{slice_get}
 use Rattle.std.proofs.lemmas.Bool.{false≢true}
 use Rattle.std.proofs.lemmas.List.{take-append-le}
-use Rattle.std.proofs.lemmas.Slice.Eq.{bytes_eq-Decides}
 use Rattle.name_table.specs.Places.{is_among, place_among, are_distinct}
+use Rattle.name_table.proofs.NameLists.{same, not_placed, placed_among, distinct-more}
 use Rattle.ir_types.specs.declared.shape.Ty.{Ty}
 use Rattle.ir_scope.specs.Doubled.{IsFirstDoubled}
 use Rattle.ir_scope.specs.Scopes.{type_among}
-use Rattle.ir_scope.specs.Placed.{place_at, ArePlaces}
-
-and_left : (b c : Bool) → (b && c) ≡ true → b ≡ true
-and_left true c e = refl
-and_left false c e = e
-
-and_right : (b c : Bool) → (b && c) ≡ true → c ≡ true
-and_right true c e = e
-and_right false c e = cc
-
-and_both : (b c : Bool) → b ≡ true → c ≡ true → (b && c) ≡ true
-and_both true c e f = f
-and_both false c e f = e
-
-not_true : (b : Bool) → not b ≡ true → b ≡ false
-not_true true e = sym e
-not_true false e = refl
-
-same : (a b : List ℕ) → bytes_eq a b ≡ true → a ≡ b
-same a b e = (bytes_eq-Decides a b).0 e
-
-same-refl : (a : List ℕ) → bytes_eq a a ≡ true
-same-refl a = (bytes_eq-Decides a a).1 refl
-
-differ-sym : (a b : List ℕ) → bytes_eq a b ≡ false → bytes_eq b a ≡ false
-differ-sym a b e = cases (bytes_eq b a) refl
-  where
-    cases : (t : Bool) → bytes_eq b a ≡ t → bytes_eq b a ≡ false
-    cases true f = absurd (false≢true (sym e ∙ ap (bytes_eq a) (same b a f) ∙ same-refl a))
-    cases false f = f
-
--- ---- names that are there
-
-absent-tail : (name other : List ℕ) (others : List (List ℕ)) → is_among name (other ∷ others) ≡ false → is_among name others ≡ false
-absent-tail name other others e = cases (bytes_eq name other) e
-  where
-    cases : (t : Bool) → cond t true (is_among name others) ≡ false → is_among name others ≡ false
-    cases true f = cc
-    cases false f = f
-
-absent-head : (name other : List ℕ) (others : List (List ℕ)) → is_among name (other ∷ others) ≡ false → bytes_eq name other ≡ false
-absent-head name other others e = cases (bytes_eq name other) e
-  where
-    cases : (t : Bool) → cond t true (is_among name others) ≡ false → t ≡ false
-    cases true f = f
-    cases false f = refl
-
-not_placed : (name : List ℕ) (names : List (List ℕ)) → place_among name names ≡ None → is_among name names ≡ false
-not_placed name [] e = refl
-not_placed name (other ∷ others) e = cases (bytes_eq name other) (place_among name others) e (not_placed name others)
-  where
-    cases : (t : Bool) (o : Option ℕ) → cond t (Some 0) (option_map (λ k. suc k) o) ≡ None → (o ≡ None → is_among name others ≡ false) → cond t true (is_among name others) ≡ false
-    cases true o f ih = cc
-    cases false None f ih = ih refl
-    cases false (Some k) f ih = cc
-
-placed_among : (name : List ℕ) (names : List (List ℕ)) (k : ℕ) → place_among name names ≡ Some k → is_among name names ≡ true
-placed_among name [] k e = cc
-placed_among name (other ∷ others) k e = cases (bytes_eq name other) (place_among name others) e (placed_among name others)
-  where
-    cases : (t : Bool) (o : Option ℕ) → cond t (Some 0) (option_map (λ j. suc j) o) ≡ Some k → ((j : ℕ) → o ≡ Some j → is_among name others ≡ true) → cond t true (is_among name others) ≡ true
-    cases true o f ih = refl
-    cases false None f ih = cc
-    cases false (Some j) f ih = ih j refl
-
-among-more : (name : List ℕ) (names : List (List ℕ)) (other : List ℕ) → is_among name names ≡ false → bytes_eq name other ≡ false → is_among name (names ++ other ∷ []) ≡ false
-among-more name [] other absent differs = ap (λ b. cond b true false) differs
-among-more name (n ∷ ns) other absent differs =
-    ap (λ b. cond b true (is_among name (ns ++ other ∷ []))) (absent-head name n ns absent) ∙ among-more name ns other (absent-tail name n ns absent) differs
-
-distinct-more : (names : List (List ℕ)) (name : List ℕ) → are_distinct names ≡ true → is_among name names ≡ false → are_distinct (names ++ name ∷ []) ≡ true
-distinct-more [] name d absent = refl
-distinct-more (n ∷ ns) name d absent =
-    and_both (not (is_among n (ns ++ name ∷ []))) (are_distinct (ns ++ name ∷ []))
-    (ap not (among-more n ns name (not_true _ (and_left (not (is_among n ns)) (are_distinct ns) d)) (differ-sym name n (absent-head name n ns absent))))
-    (distinct-more ns name (and_right (not (is_among n ns)) (are_distinct ns) d) (absent-tail name n ns absent))
+use Rattle.ir_scope.specs.Mirrors.Placed.{place_at, ArePlaces}
 
 -- ---- places
 

@@ -4,7 +4,7 @@ use Rattle.std.specs.Prelude.{if◌then◌else◌}
 use Rattle.std.proofs.lemmas.List.{drop-drop}
 use Rattle.ir_grammar.specs.declared.lexeme.Lexeme.{Lexeme}
 use Rattle.ir_grammar.specs.declared.shape.Shape.{Shape}
-use Rattle.ir_grammar.specs.Walk.{Kept, seen}
+use Rattle.ir_grammar.specs.Tokens.{Kept, seen}
 use Rattle.ir_scope.specs.Runs.{Reading, run, runs, begins_with, closed_by}
 
 -- ---- kept lexemes

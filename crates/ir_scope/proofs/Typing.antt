@@ -1,20 +1,17 @@
 -- Types that are read: which of them fit, and those of structs.
-use Rattle.std.proofs.Common.{◌≡◌, ◌∙◌, ◌⊎◌, inl, inr, ℕ, ◌+◌, ◌-◌, ◌^◌, ◌<◌, ◌≤◌, suc, zero, max, Bool, true, false, cond, ◌&&◌, nat_le, nat_lt, List, [], ◌∷◌, ◌++◌, map, sum, length, drop, Option, Some, None, option_map, option_and_then, refl, sym, ap, subst, arith}
-use Rattle.std.specs.Prelude.{IsTrue}
+use Rattle.std.proofs.Common.{◌≡◌, ◌∙◌, ◌⊎◌, inl, inr, ℕ, ◌+◌, ◌<◌, ◌≤◌, suc, zero, Bool, true, false, cond, ◌&&◌, nat_le, List, [], ◌∷◌, ◌++◌, map, sum, drop, Option, Some, None, option_map, refl, sym, ap, arith}
+use Rattle.std.proofs.lemmas.Bool.{and_right}
 use Rattle.std.proofs.lemmas.Bool.Decides.{nat_tests}
-use Rattle.ir_types.specs.declared.scalar.Scalar.{Scalar}
 use Rattle.ir_types.specs.declared.shape.Ty.{Ty}
 use Rattle.ir_types.specs.declared.shape.Ty.TheViews.{Array, Struct}
 use Rattle.ir_types.specs.Nesting.{greatest, nesting, nodes}
 use Rattle.ir_types.proofs.Nestings.{nesting-Array, nesting-Struct, nodes-Array, nodes-Struct}
-use Rattle.ir_grammar.specs.declared.shape.Shape.{Shape}
 use Rattle.ir_grammar.specs.declared.shape.Shape.TheVariants as is
-use Rattle.ir_grammar.specs.declared.shape.Digits.{Digits}
 use Rattle.ir_grammar.specs.declared.lexeme.Lexeme.{Lexeme}
-use Rattle.ir_grammar.specs.Walk.{Kept, seen}
-use Rattle.ir_scope.specs.Runs.{Reading, behind, runs, begins_with, closed_by}
-use Rattle.ir_scope.specs.Types.{type_at, fits, fitting, is_close_brace, begins_field}
-use Rattle.ir_scope.specs.Reads.{array_at, struct_at, struct_of}
+use Rattle.ir_grammar.specs.Tokens.{Kept, seen}
+use Rattle.ir_scope.specs.Runs.{behind, begins_with}
+use Rattle.ir_scope.specs.Types.{type_at, fits, fitting, is_close_brace}
+use Rattle.ir_scope.specs.Mirrors.Reads.{array_at, struct_at, struct_of}
 use Rattle.ir_scope.proofs.Runs.{read_on, seen-rest, closed-is, closed-none}
 use Rattle.ir_scope.proofs.Measuring.{nodes_on}
 
@@ -26,17 +23,13 @@ within-is n k least = grind (arith, nat_tests, least)
 within-isn't : (n k : ℕ) → k < n → nat_le n k ≡ false
 within-isn't n k less = grind (arith, nat_tests, less)
 
-and_false : (b : Bool) → (b && false) ≡ false
-and_false true = refl
-and_false false = refl
-
 pub fits-is : (ty : Ty) → nesting ty ≤ 64 → nodes ty ≤ 4096 → fits ty ≡ true
 fits-is ty nests few = ap (λ b. b && nat_le (nodes ty) 4096) (within-is (nesting ty) 64 nests) ∙ within-is (nodes ty) 4096 few
 
 pub fits-isn't : (ty : Ty) → (64 < nesting ty) ⊎ (4096 < nodes ty) → fits ty ≡ false
 fits-isn't ty large = elim large [
   | inl h ↦ ap (λ b. b && nat_le (nodes ty) 4096) (within-isn't (nesting ty) 64 h)
-  | inr h ↦ ap (λ b. nat_le (nesting ty) 64 && b) (within-isn't (nodes ty) 4096 h) ∙ and_false (nat_le (nesting ty) 64)
+  | inr h ↦ ap (λ b. nat_le (nesting ty) 64 && b) (within-isn't (nodes ty) 4096 h) ∙ and_right (nat_le (nesting ty) 64) false refl
 ]
 
 pub fitting-is : (ty : Ty) (n : ℕ) → nesting ty ≤ 64 → nodes ty ≤ 4096 → fitting (Some (ty, n)) ≡ Some (ty, n)

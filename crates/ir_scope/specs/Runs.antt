@@ -1,7 +1,7 @@
 -- Readings of kept lexemes, and runs of parts that are written alike.
 use Rattle.std.specs.Prelude.{ℕ, zero, suc, ◌+◌, ◌-◌, Bool, false, List, [], ◌∷◌, drop, Option, Some, None, option_map, option_and_then, if◌then◌else◌}
 use Rattle.ir_grammar.specs.declared.shape.Shape.{Shape}
-use Rattle.ir_grammar.specs.Walk.{Kept}
+use Rattle.ir_grammar.specs.Tokens.{Kept}
 
 -- what stands at the front of kept lexemes, and how many of them spell it
 abbrev pub Reading : Type 0 → Type 0

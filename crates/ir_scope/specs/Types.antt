@@ -7,12 +7,13 @@ use Rattle.ir_types.specs.declared.shape.Ty.TheViews.{Array, Struct}
 use Rattle.ir_types.specs.declared.shape.Ty.TheOpen.{Ty-F}
 use Rattle.ir_types.specs.declared.shape.Ty.TheFolds.{fold-Ty}
 use Rattle.ir_types.specs.Nesting.{nesting, nodes}
+use Rattle.ir_types.specs.Names.{is_name}
 use Rattle.ir_syntax.specs.Suits.{each_takes}
 use Rattle.ir_grammar.specs.declared.shape.Shape.{Shape}
 use Rattle.ir_grammar.specs.declared.shape.Shape.TheVariants as is
-use Rattle.ir_grammar.specs.Scalars.{same}
+use Rattle.ir_types.specs.Scalars.{same}
 use Rattle.ir_grammar.specs.Numbers.{number_of}
-use Rattle.ir_grammar.specs.Walk.{Kept}
+use Rattle.ir_grammar.specs.Tokens.{Kept}
 use Rattle.ir_scope.specs.Runs.{Reading, behind, runs, closed_by}
 
 -- A written type nests at most 64 deep and has at most 4,096 nodes.
@@ -29,11 +30,15 @@ is_close_brace _ = false
 abbrev pub begins_field : Shape → Bool
 begins_field shape = not (is_close_brace shape)
 
+-- what a use of a name stands for: nothing, where the name breaks the limits on names
+abbrev pub type_named : (List ℕ → Option Ty) → List ℕ → Option Ty
+type_named look name = if is_name name then look name else None
+
 -- A scalar; a name, as what it stands for; [ n x T ] with n below 2^64; { T, T }. So many of the last two may be open.
 abbrev pub type_at : (List ℕ → Option Ty) → ℕ → Reading Ty
 type_at look depth [] = None
 type_at look depth ((is.Scalar s, text) ∷ ks) = Some (One s, 1)
-type_at look depth ((is.Local, text) ∷ ks) = fitting (option_map (λ ty. (ty, 1)) (look (name_of (drop 1 text))))
+type_at look depth ((is.Local, text) ∷ ks) = fitting (option_map (λ ty. (ty, 1)) (type_named look (name_of (drop 1 text))))
 type_at look (suc depth) ((is.OpenSquare, text) ∷ (is.Int digits, count) ∷ ks) =
     if nat_lt (number_of count) (2 ^ 64) then fitting (behind 2 (option_map (λ f. (Array (number_of count) f.0, f.1)) (type_at look depth ks))) else None
 type_at look (suc depth) ((is.OpenBrace, text) ∷ ks) =

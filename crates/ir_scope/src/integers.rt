@@ -3,7 +3,7 @@ ghost use Rattle.std.specs.Prelude.{◌≡◌, ◌<◌, ◌≤◌, ◌+◌, ◌-
 ghost use Rattle.ir_syntax.specs.Suits.{is_number_of};
 ghost use Rattle.ir_grammar.specs.Numbers.{number_of};
 ghost use Rattle.ir_scope.specs.Integers.{width, number, truth, integer_of, extended};
-ghost use Rattle.ir_scope.specs.Halves.{half_of, negated, integer_by, number_below, word_number};
+ghost use Rattle.ir_scope.specs.Mirrors.Halves.{half_of, negated, integer_by, number_below, word_number};
 
 use ir_grammar::{Lexeme, Shape, Value};
 use ir_types::Scalar;

@@ -1,7 +1,7 @@
 //! Names found again by hash, each with the first place where it stands in a list.
 ghost use Rattle.std.specs.Prelude.{◌≡◌, ◌<◌, ◌^◌, ◌∷◌, [], ◌++◌, ℕ, List, length, map, IfSome, OnOk, OnErr};
 ghost use Rattle.std.specs.Option.{ForSome};
-ghost use Rattle.ir_scope.specs.Placed.{place_at, ArePlaces};
+ghost use Rattle.ir_scope.specs.Mirrors.Placed.{place_at, ArePlaces};
 
 use indexmap::IndexMap;
 use ir_types::OutOfMemory;

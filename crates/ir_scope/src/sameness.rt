@@ -2,7 +2,7 @@
 ghost use Rattle.std.specs.Prelude.{◌≡◌, ◌<◌, map, IsTrue};
 ghost use Rattle.ir_types.specs.declared.shape.Ty.{Ty as TypeValue};
 ghost use Rattle.ir_syntax.specs.Suits.{each_takes};
-ghost use Rattle.ir_grammar.specs.Scalars.{same};
+ghost use Rattle.ir_types.specs.Scalars.{same};
 ghost use Rattle.ir_scope.specs.Types.{same_type};
 
 use ir_types::{Scalar, Ty};

@@ -3,7 +3,7 @@ ghost use Rattle.std.specs.Prelude.{◌≡◌, ◌∷◌, [], ◌++◌, IsTrue, 
 ghost use Rattle.std.specs.Option.{option_copied};
 ghost use Rattle.name_table.specs.Places.{place_among, are_distinct};
 ghost use Rattle.ir_scope.specs.Doubled.{IsCause};
-ghost use Rattle.ir_scope.specs.Placed.{ArePlaces};
+ghost use Rattle.ir_scope.specs.Mirrors.Placed.{ArePlaces};
 ghost use Rattle.ir_scope.specs.Scopes.{Names, type_among, is_at, is_intrinsic_place};
 
 use crate::places::Places;

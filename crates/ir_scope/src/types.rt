@@ -5,18 +5,18 @@ ghost use Rattle.ir_types.specs.declared.shape.Ty.TheBlock.{One};
 ghost use Rattle.ir_types.specs.declared.shape.Ty.TheViews.{Array};
 ghost use Rattle.ir_syntax.specs.Suits.{IsType};
 ghost use Rattle.ir_lexer.specs.Texts.{name_of};
-ghost use Rattle.ir_grammar.specs.Walk.{seen};
+ghost use Rattle.ir_grammar.specs.Tokens.{seen};
 ghost use Rattle.ir_scope.specs.Runs.{behind, runs, begins_with};
 ghost use Rattle.ir_scope.specs.Scopes.{type_among};
-ghost use Rattle.ir_scope.specs.Types.{is_close_brace, begins_field, type_at, written_type, fitting, fits};
-ghost use Rattle.ir_scope.specs.Reads.{array_at, struct_at, struct_of};
+ghost use Rattle.ir_scope.specs.Types.{is_close_brace, begins_field, type_named, type_at, written_type, fitting, fits};
+ghost use Rattle.ir_scope.specs.Mirrors.Reads.{array_at, struct_at, struct_of};
 
 use crate::integers::number_of;
 use crate::measures::measured;
 use crate::scope::Scope;
 use ir_grammar::{Lexeme, Shape};
 use ir_lexer::{Kind, Token, decode, undecoded};
-use ir_types::{Boxed, Copied, List, OutOfMemory, Scalar, Ty};
+use ir_types::{Boxed, Copied, List, OutOfMemory, Scalar, Ty, is_name};
 use std::alloc::Global;
 
 /// How deep a written type nests at most.
@@ -60,11 +60,14 @@ fn one(scalar: Scalar) -> Found
     }
 }
 
-/// What the name stands for.
+/// What the name stands for: nothing, where it breaks the limits on names.
 fn known(alloc: Global, scope: &Scope, name: &[u8]) -> Result<Option<Found>, OutOfMemory>
-    ensures exact { IfOk result (λ found. option_map (λ f. (f.ty, f.taken)) found ≡ fitting (option_map (λ ty. (ty, 1)) (type_among scope.now.types name.now))) }
+    ensures exact { IfOk result (λ found. option_map (λ f. (f.ty, f.taken)) found ≡ fitting (option_map (λ ty. (ty, 1)) (type_named (type_among scope.now.types) name.now))) }
     ensures taken { IfOk result (λ found. IfSome found (λ f. f.taken ≡ 1)) }
 {
+    if !is_name(name) {
+        return Ok(None);
+    }
     let ty = match scope.lookup_type(name) {
         Some(ty) => ty,
         None => return Ok(None),
@@ -82,7 +85,7 @@ fn known(alloc: Global, scope: &Scope, name: &[u8]) -> Result<Option<Found>, Out
 
 /// What `%name` stands for.
 fn named(alloc: Global, scope: &Scope, text: &[u8]) -> Result<Option<Found>, OutOfMemory>
-    ensures exact { IfOk result (λ found. option_map (λ f. (f.ty, f.taken)) found ≡ fitting (option_map (λ ty. (ty, 1)) (type_among scope.now.types (name_of (drop 1 text.now))))) }
+    ensures exact { IfOk result (λ found. option_map (λ f. (f.ty, f.taken)) found ≡ fitting (option_map (λ ty. (ty, 1)) (type_named (type_among scope.now.types) (name_of (drop 1 text.now))))) }
     ensures taken { IfOk result (λ found. IfSome found (λ f. f.taken ≡ 1)) }
 {
     let token = Token {
@@ -289,9 +292,10 @@ fn read_fields(
 }
 
 /// Reads the type at the front of kept lexemes: a scalar, `[n x T]` with n below 2^64, `{ T, T }`, or a name, which stands for
-/// its type of the scope. It comes with the number of lexemes that spell it. `None` comes exactly where no type stands there
-/// that nests at most 64 deep and has at most 4,096 nodes, in the text and with its names put in; LLVM's Language Reference,
-/// "Type System", has the forms. The error is want of memory.
+/// its type of the scope; one that doesn't have 1 to 4,096 bytes, or has a zero byte, stands for nothing. The type comes with
+/// the number of lexemes that spell it. `None` comes exactly where no type stands there that nests at most 64 deep and has at
+/// most 4,096 nodes, in the text and with its names put in; LLVM's Language Reference, "Type System", has the forms. The error
+/// is want of memory.
 pub fn read_type(
     alloc: Global,
     scope: &Scope,

@@ -10,7 +10,7 @@ use Rattle.ir_syntax.specs.declared.body.Term.TheVariants as term
 use Rattle.ir_syntax.specs.Suits.{is_number_of}
 use Rattle.ir_syntax.specs.FormedBody.{Places, IsOperand, FormedPhi, FormedTerm}
 use Rattle.ir_grammar.specs.declared.shape.Shape.TheVariants as is
-use Rattle.ir_grammar.specs.Walk.{Kept}
+use Rattle.ir_grammar.specs.Tokens.{Kept}
 use Rattle.ir_scope.specs.Runs.{behind, runs}
 use Rattle.ir_scope.specs.Integers.{number}
 use Rattle.ir_constants.specs.Constants.{is_close_square}

@@ -8,7 +8,7 @@ use Rattle.ir_syntax.specs.declared.body.Term.TheVariants as term
 use Rattle.ir_syntax.specs.declared.body.Phi.{Phi}
 use Rattle.ir_grammar.specs.declared.shape.Shape.{Shape}
 use Rattle.ir_grammar.specs.declared.shape.Shape.TheVariants as is
-use Rattle.ir_grammar.specs.Walk.{Kept}
+use Rattle.ir_grammar.specs.Tokens.{Kept}
 use Rattle.ir_scope.specs.Runs.{Reading, behind, runs, closed_by}
 use Rattle.ir_scope.specs.Integers.{number}
 use Rattle.ir_constants.specs.Constants.{is_close_square}

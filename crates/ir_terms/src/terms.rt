@@ -1,11 +1,11 @@
 //! Phis and terminators, behind their words.
 ghost use Rattle.std.specs.Prelude.{◌≡◌, ◌≤◌, length, not, IfOk, IfSome};
-ghost use Rattle.ir_grammar.specs.Walk.{seen};
+ghost use Rattle.ir_grammar.specs.Tokens.{seen};
 ghost use Rattle.ir_scope.specs.Runs.{runs, begins_with};
 ghost use Rattle.ir_constants.specs.Constants.{is_close_square};
-ghost use Rattle.ir_operands.specs.Naming.{naming};
+ghost use Rattle.ir_operands.specs.Mirrors.Naming.{naming};
 ghost use Rattle.ir_terms.specs.Terms.{is_open_square, entry_at, phi_at, ret_at, br_at, case_at, cases_at, switch_at};
-ghost use Rattle.ir_terms.specs.Shaped.{begins_case, branch_at, jump_at, value_ret_at, defaulted_at};
+ghost use Rattle.ir_terms.specs.Mirrors.Shaped.{begins_case, branch_at, jump_at, value_ret_at, defaulted_at};
 
 use ir_grammar::{Lexeme, Shape};
 use ir_operands::{Names, after, block, operand, typed_operand};

@@ -1,7 +1,7 @@
 //! Rows of `ir_grammar`.
 use crate::answer::{Answer, number};
 use crate::row::{bytes_of, number_of as count_of};
-use ir_grammar::{Lexeme, Shape, Symbol, exponent_of, number_of, walk};
+use ir_grammar::{Lexeme, Name, Shape, exponent_of, number_of, read_nonterminal};
 use ir_lexer::{Kind, LexFault, Token, lex};
 use ir_types::{Bytes, List, OutOfMemory};
 use std::alloc::Global;
@@ -9,17 +9,17 @@ use std::alloc::Global;
 /// What is found for a row.
 pub fn answer(alloc: Global, fields: &[&str]) -> Result<Answer, OutOfMemory> {
     match fields {
-        ["spelled", symbol, text] => {
+        ["spelled", name, text] => {
             let text = bytes_of(alloc, *text)?;
-            spelled(alloc, symbol_of(*symbol), text.as_slice())
+            spelled(alloc, name_of(*name), text.as_slice())
         }
-        ["kept", symbol, text] => {
+        ["kept", name, text] => {
             let text = bytes_of(alloc, *text)?;
-            kept(alloc, symbol_of(*symbol), text.as_slice())
+            kept(alloc, name_of(*name), text.as_slice())
         }
-        ["deep", symbol, depth, open, middle, close] => {
+        ["deep", name, depth, open, middle, close] => {
             let text = nested(alloc, count_of(*depth), *open, *middle, *close)?;
-            spelled(alloc, symbol_of(*symbol), text.as_slice())
+            spelled(alloc, name_of(*name), text.as_slice())
         }
         _ => numbered(alloc, fields),
     }
@@ -28,8 +28,8 @@ pub fn answer(alloc: Global, fields: &[&str]) -> Result<Answer, OutOfMemory> {
 /// What is found for a row about a number.
 fn numbered(alloc: Global, fields: &[&str]) -> Result<Answer, OutOfMemory> {
     match fields {
-        ["attributes from", place] => from(alloc, count_of(*place), Symbol::Attributes),
-        ["entity from", place] => from(alloc, count_of(*place), Symbol::Entity),
+        ["attribute from", place] => from(alloc, count_of(*place), Name::Attribute),
+        ["entity from", place] => from(alloc, count_of(*place), Name::Entity),
         ["number", digits] => Ok(number(number_of(digits.as_bytes()))),
         ["nines", count] => {
             let text = nested(alloc, count_of(*count), "9", "", "")?;
@@ -40,14 +40,14 @@ fn numbered(alloc: Global, fields: &[&str]) -> Result<Answer, OutOfMemory> {
     }
 }
 
-fn symbol_of(word: &str) -> Symbol {
+fn name_of(word: &str) -> Name {
     match word {
-        "AnyType" => Symbol::AnyType,
-        "Constant" => Symbol::Constant,
-        "Value" => Symbol::Value,
-        "Body" => Symbol::Body,
-        "Entity" => Symbol::Entity,
-        _ => Symbol::Attributes,
+        "Type" => Name::Type,
+        "Constant" => Name::Constant,
+        "NamedLine" => Name::NamedLine(false),
+        "Body" => Name::Body,
+        "Entity" => Name::Entity,
+        _ => Name::Attribute,
     }
 }
 
@@ -60,13 +60,13 @@ fn tokens_of(alloc: Global, text: &[u8]) -> Result<Option<List<Token>>, OutOfMem
     }
 }
 
-/// How much of a text a symbol spells: all of its tokens, a part of them, or none.
-fn spelled(alloc: Global, start: Symbol, text: &[u8]) -> Result<Answer, OutOfMemory> {
+/// How much of a text a nonterminal derives: all of its tokens, a part of them, or none.
+fn spelled(alloc: Global, start: Name, text: &[u8]) -> Result<Answer, OutOfMemory> {
     let tokens = match tokens_of(alloc, text)? {
         Some(tokens) => tokens,
         None => return Ok(Answer::NoRow),
     };
-    match walk(alloc, text, tokens.as_slice(), 0, start)? {
+    match read_nonterminal(alloc, text, tokens.as_slice(), 0, start)? {
         Some((_, place)) => Ok(as_far(place, tokens.len())),
         None => Ok(Answer::None),
     }
@@ -80,13 +80,13 @@ fn as_far(place: usize, count: usize) -> Answer {
     }
 }
 
-/// The place behind what a symbol takes, and what it keeps.
-fn kept(alloc: Global, start: Symbol, text: &[u8]) -> Result<Answer, OutOfMemory> {
+/// The place behind what a nonterminal derives, and what is kept.
+fn kept(alloc: Global, start: Name, text: &[u8]) -> Result<Answer, OutOfMemory> {
     let tokens = match tokens_of(alloc, text)? {
         Some(tokens) => tokens,
         None => return Ok(Answer::NoRow),
     };
-    match walk(alloc, text, tokens.as_slice(), 0, start)? {
+    match read_nonterminal(alloc, text, tokens.as_slice(), 0, start)? {
         Some((kept, place)) => Ok(Answer::Kept(place, line_of(alloc, &kept)?)),
         None => Ok(Answer::None),
     }
@@ -155,9 +155,9 @@ const TOKENS: [Token; 3] = [
     },
 ];
 
-/// The place behind what a symbol takes from a place on.
-fn from(alloc: Global, from: usize, start: Symbol) -> Result<Answer, OutOfMemory> {
-    match walk(alloc, b"i8 nounwind i16", &TOKENS, from, start)? {
+/// The place behind what a nonterminal derives from a place on.
+fn from(alloc: Global, from: usize, start: Name) -> Result<Answer, OutOfMemory> {
+    match read_nonterminal(alloc, b"i8 nounwind i16", &TOKENS, from, start)? {
         Some((_, place)) => Ok(Answer::Place(place)),
         None => Ok(Answer::None),
     }

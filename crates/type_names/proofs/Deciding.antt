@@ -4,7 +4,7 @@ use Rattle.std.specs.List.{slice_get}
 use Rattle.std.proofs.lemmas.List.{take_more, map-append, length-map, length-take-le}
 use Rattle.ir_types.specs.declared.shape.Ty.{Ty}
 use Rattle.name_table.specs.Places.{place_among}
-use Rattle.ir_grammar.specs.Walk.{seen}
+use Rattle.ir_grammar.specs.Tokens.{seen}
 use Rattle.ir_types.specs.Names.{is_name}
 use Rattle.ir_scope.specs.Scopes.{type_among, is_at}
 use Rattle.type_names.specs.declared.named.NamedType.{NamedType}

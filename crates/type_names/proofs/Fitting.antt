@@ -7,10 +7,10 @@ use Rattle.ir_types.proofs.Nestings.{nesting-One, nodes-One}
 use Rattle.ir_types.specs.declared.scalar.Scalar.{Scalar}
 use Rattle.ir_grammar.specs.declared.shape.Shape.TheVariants as is
 use Rattle.ir_grammar.specs.Numbers.{number_of}
-use Rattle.ir_grammar.specs.Walk.{Kept}
+use Rattle.ir_grammar.specs.Tokens.{Kept}
 use Rattle.ir_lexer.specs.Texts.{name_of}
 use Rattle.ir_scope.specs.Runs.{behind, runs, closed_by}
-use Rattle.ir_scope.specs.Types.{fits, fitting, is_close_brace, begins_field, type_at, written_type}
+use Rattle.ir_scope.specs.Types.{fits, fitting, is_close_brace, begins_field, type_named, type_at, written_type}
 use Rattle.type_names.specs.TypeNames.{Named, written_for, stands_in, stands_for}
 use Rattle.type_names.proofs.Knowing.{no_some}
 
@@ -36,7 +36,7 @@ type_fits look depth [] found e = no_some found e
 type_fits look depth ((is.Scalar s, text) ∷ ks) found e =
     let same : ◌≡◌ {A = Ty × ℕ} (One s, 1) found = cc in
     subst (λ (g : Ty × ℕ). IsTrue (fits g.0)) same (one_fits s)
-type_fits look depth ((is.Local, text) ∷ ks) found e = fitting_fits (option_map (λ ty. (ty, 1)) (look (name_of (drop 1 text)))) found e
+type_fits look depth ((is.Local, text) ∷ ks) found e = fitting_fits (option_map (λ ty. (ty, 1)) (type_named look (name_of (drop 1 text)))) found e
 type_fits look (suc depth) ((is.OpenSquare, text) ∷ (is.Int digits, count) ∷ ks) found e =
     either_fits (nat_lt (number_of count) (2 ^ 64)) (behind 2 (option_map (λ f. (Array (number_of count) f.0, f.1)) (type_at look depth ks))) found e
 type_fits look (suc depth) ((is.OpenBrace, text) ∷ ks) found e =

@@ -5,11 +5,12 @@ use Rattle.ir_types.specs.declared.shape.Ty.TheViews.{Array, Struct}
 use Rattle.ir_grammar.specs.declared.shape.Shape.{Shape}
 use Rattle.ir_grammar.specs.declared.shape.Shape.TheVariants as is
 use Rattle.ir_grammar.specs.Numbers.{number_of}
-use Rattle.ir_grammar.specs.Walk.{Kept}
+use Rattle.ir_grammar.specs.Tokens.{Kept}
 use Rattle.ir_lexer.specs.Texts.{name_of}
 use Rattle.ir_scope.specs.Runs.{Reading, behind, run, runs, closed_by}
 use Rattle.type_names.specs.Learning.{IsMore}
-use Rattle.ir_scope.specs.Types.{fitting, is_close_brace, begins_field, type_at, written_type}
+use Rattle.ir_scope.specs.Types.{fitting, is_close_brace, begins_field, type_named, type_at, written_type}
+use Rattle.ir_types.specs.Names.{is_name}
 
 pub no_some : {A : Type 0} {P : Type 0} (a : A) → None ≡ Some a → P
 no_some a e = absurd cc
@@ -49,6 +50,10 @@ none_either : (b : Bool) → ◌≡◌ {A = Option (Ty × ℕ)} (cond b None Non
 none_either true = refl
 none_either false = refl
 
+-- the same where a name is used
+named_more : (look other : List ℕ → Option Ty) → IsMore look other → (name : List ℕ) (ty : Ty) → type_named look name ≡ Some ty → type_named other name ≡ Some ty
+named_more look other more name ty e = more_choice (is_name name) (look name) (other name) None (more.kept name) ty e
+
 pub type_more : (look other : List ℕ → Option Ty) → IsMore look other → (depth : ℕ) → IsMore (type_at look depth) (type_at other depth)
 type_more look other more depth = record { kept = by depth }
   where
@@ -56,7 +61,7 @@ type_more look other more depth = record { kept = by depth }
     by depth [] found e = e
     by depth ((is.Scalar s, text) ∷ ks) found e = e
     by depth ((is.Local, text) ∷ ks) found e =
-        more_by (λ o. fitting (option_map (λ ty. (ty, 1)) o)) (look (name_of (drop 1 text))) (other (name_of (drop 1 text))) refl (more.kept (name_of (drop 1 text))) found e
+        more_by (λ o. fitting (option_map (λ ty. (ty, 1)) o)) (type_named look (name_of (drop 1 text))) (type_named other (name_of (drop 1 text))) refl (named_more look other more (name_of (drop 1 text))) found e
     by (suc depth) ((is.OpenSquare, text) ∷ (is.Int digits, count) ∷ ks) found e =
         more_by (λ o. cond (nat_lt (number_of count) (2 ^ 64)) (fitting (behind 2 (option_map (λ f. (Array (number_of count) f.0, f.1)) o))) None) (type_at look depth ks) (type_at other depth ks) (none_either (nat_lt (number_of count) (2 ^ 64))) (by depth ks) found e
     by (suc depth) ((is.OpenBrace, text) ∷ ks) found e =

@@ -4,7 +4,7 @@ use Rattle.std.specs.List.{slice_get}
 use Rattle.std.proofs.lemmas.Bool.{eqb-true}
 use Rattle.ir_types.specs.declared.shape.Ty.{Ty}
 use Rattle.name_table.specs.Places.{place_among}
-use Rattle.ir_grammar.specs.Walk.{Kept}
+use Rattle.ir_grammar.specs.Tokens.{Kept}
 use Rattle.ir_scope.specs.Scopes.{type_among, is_at}
 use Rattle.ir_scope.specs.Types.{written_type}
 use Rattle.type_names.specs.TypeNames.{Named, written_for}

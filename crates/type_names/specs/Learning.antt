@@ -2,7 +2,7 @@
 use Rattle.std.specs.Prelude.{◌≡◌, ℕ, suc, ◌+◌, ◌≤◌, ◌<◌, Bool, true, false, ◌&&◌, is_some, is_none, List, [], ◌∷◌, ◌++◌, length, take, Option, Some, None, slice_get, if◌then◌else◌}
 use Rattle.ir_types.specs.declared.shape.Ty.{Ty}
 use Rattle.name_table.specs.Places.{place_among}
-use Rattle.ir_grammar.specs.Walk.{Kept}
+use Rattle.ir_grammar.specs.Tokens.{Kept}
 use Rattle.ir_scope.specs.Scopes.{type_among, is_at}
 use Rattle.ir_scope.specs.Types.{written_type}
 use Rattle.type_names.specs.TypeNames.{Named, written_for, stands_in}

@@ -5,7 +5,7 @@ use Rattle.ir_lexer.specs.Texts.{name_of}
 use Rattle.ir_types.specs.declared.shape.Ty.{Ty}
 use Rattle.name_table.specs.Places.{place_among}
 use Rattle.ir_grammar.specs.declared.shape.Shape.TheVariants as is
-use Rattle.ir_grammar.specs.Walk.{Kept}
+use Rattle.ir_grammar.specs.Tokens.{Kept}
 use Rattle.ir_scope.specs.Scopes.{is_at}
 use Rattle.ir_scope.specs.Types.{written_type}
 use Rattle.ir_types.specs.Names.{is_name}

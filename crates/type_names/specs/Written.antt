@@ -1,6 +1,6 @@
 -- What contracts see of named types, and which of them a module may have.
 use Rattle.std.specs.Prelude.{ℕ, suc, Bool, List, [], ◌∷◌, map}
-use Rattle.ir_grammar.specs.Walk.{seen}
+use Rattle.ir_grammar.specs.Tokens.{seen}
 use Rattle.type_names.specs.declared.named.NamedType.{NamedType}
 use Rattle.type_names.specs.TypeNames.{Named, is_type_entity}
 

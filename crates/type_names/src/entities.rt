@@ -1,7 +1,7 @@
 //! Which named types a module may have.
 ghost use Rattle.std.specs.Prelude.{◌≡◌, ◌&&◌, ◌||◌, ℕ, List, is_some, IfOk};
 ghost use Rattle.name_table.specs.Places.{place_among};
-ghost use Rattle.ir_grammar.specs.Walk.{seen};
+ghost use Rattle.ir_grammar.specs.Tokens.{seen};
 ghost use Rattle.ir_types.specs.Names.{is_name};
 ghost use Rattle.ir_scope.specs.Scopes.{type_among, is_at};
 ghost use Rattle.type_names.specs.TypeNames.{is_opaque, stands_for};

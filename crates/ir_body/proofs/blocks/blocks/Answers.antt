@@ -1,5 +1,5 @@
 use Rattle.std.proofs.Common.{sym, ◌∙◌, arith}
-use Rattle.ir_body.specs.Naming.{line_of, lines_seen}
+use Rattle.ir_body.specs.Mirrors.Naming.{line_of, lines_seen}
 use Rattle.ir_body.proofs.Built.{builds_more}
 use Rattle.ir_body.proofs.blocks.blocks.Goals as goal
 

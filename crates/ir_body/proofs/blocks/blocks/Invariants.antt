@@ -1,8 +1,8 @@
 -- the blocks so far, and the lines that are left
 use Rattle.std.proofs.Common.{◌-◌, ◌≤◌, length}
-use Rattle.ir_grammar.specs.Walk.{seen}
-use Rattle.ir_operands.specs.Naming.{naming}
-use Rattle.ir_body.specs.Shaped.{begins_line}
+use Rattle.ir_grammar.specs.Tokens.{seen}
+use Rattle.ir_operands.specs.Mirrors.Naming.{naming}
+use Rattle.ir_body.specs.Mirrors.Shaped.{begins_line}
 use Rattle.ir_body.specs.Lines.{line_at}
 use Rattle.ir_body.proofs.Built.{Builds}
 use Rattle.ir_body.proofs.blocks.blocks.Given as goal

@@ -1,8 +1,8 @@
 use Rattle.std.proofs.Common.{length}
-use Rattle.ir_grammar.specs.Walk.{seen}
-use Rattle.ir_operands.specs.Naming.{naming}
+use Rattle.ir_grammar.specs.Tokens.{seen}
+use Rattle.ir_operands.specs.Mirrors.Naming.{naming}
 use Rattle.ir_body.specs.Lines.{line_at}
-use Rattle.ir_body.specs.Shaped.{shaped_line_at}
+use Rattle.ir_body.specs.Mirrors.Shaped.{shaped_line_at}
 use Rattle.ir_body.proofs.Lined.{same_lines, line_is, within_more}
 use Rattle.ir_body.proofs.lines.read_line.Goals as goal
 

@@ -1,6 +1,6 @@
-use Rattle.ir_grammar.specs.Walk.{seen}
-use Rattle.ir_operands.specs.Naming.{naming}
-use Rattle.ir_body.specs.Shaped.{plain_line_at, shaped_line_at}
+use Rattle.ir_grammar.specs.Tokens.{seen}
+use Rattle.ir_operands.specs.Mirrors.Naming.{naming}
+use Rattle.ir_body.specs.Mirrors.Shaped.{plain_line_at, shaped_line_at}
 use Rattle.ir_body.proofs.Lined.{same_lines, plain_is}
 use Rattle.ir_body.proofs.lines.shaped_line.Goals as goal
 

@@ -1,8 +1,8 @@
 use Rattle.std.proofs.Common.{sym, ◌∙◌}
-use Rattle.ir_grammar.specs.Walk.{seen}
+use Rattle.ir_grammar.specs.Tokens.{seen}
 use Rattle.ir_scope.specs.Scopes.{env_of}
 use Rattle.ir_body.proofs.One.{resolved}
-use Rattle.ir_operands.specs.Naming.{naming}
+use Rattle.ir_operands.specs.Mirrors.Naming.{naming}
 use Rattle.ir_body.proofs.reading.resolve_body.Goals as goal
 
 pub returns-in-Some : goal.returns-in-Some

@@ -1,8 +1,8 @@
 -- the parts so far, and those that are left
 use Rattle.std.proofs.Common.{◌-◌, ◌≤◌, length}
-use Rattle.ir_grammar.specs.Walk.{seen}
-use Rattle.ir_operands.specs.Naming.{naming}
-use Rattle.ir_calls.specs.Shaped.{begins_arg}
+use Rattle.ir_grammar.specs.Tokens.{seen}
+use Rattle.ir_operands.specs.Mirrors.Naming.{naming}
+use Rattle.ir_calls.specs.Mirrors.Shaped.{begins_arg}
 use Rattle.ir_calls.specs.Calls.{arg_at}
 use Rattle.ir_operands.proofs.Runs.{Going}
 use Rattle.ir_calls.proofs.calls.listed_args.Given as goal

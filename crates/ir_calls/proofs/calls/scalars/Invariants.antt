@@ -1,6 +1,6 @@
 -- the parts so far, and those that are left
 use Rattle.std.proofs.Common.{◌-◌, ◌≤◌, length}
-use Rattle.ir_grammar.specs.Walk.{seen}
+use Rattle.ir_grammar.specs.Tokens.{seen}
 use Rattle.ir_operands.specs.Marks.{is_scalar, scalar_at}
 use Rattle.ir_operands.proofs.Runs.{Going}
 use Rattle.ir_calls.proofs.calls.scalars.Given as goal

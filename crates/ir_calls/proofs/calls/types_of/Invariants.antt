@@ -1,6 +1,6 @@
 -- the types so far
 use Rattle.std.proofs.Common.{◌≡◌, take}
-use Rattle.ir_calls.specs.Shaped.{arg_types}
+use Rattle.ir_calls.specs.Mirrors.Shaped.{arg_types}
 use Rattle.ir_calls.proofs.calls.types_of.Given as goal
 
 abbrev pub invariant-loop-arg : goal.invariant-loop-arg

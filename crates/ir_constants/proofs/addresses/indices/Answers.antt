@@ -2,8 +2,8 @@ use Rattle.std.proofs.Common.{◌≡◌, ◌∙◌, ◌+◌, ◌≤◌, ◌∷�
 use Rattle.std.proofs.lemmas.List.{take_rest}
 use Rattle.std.proofs.lemmas.List.Elements.{All-push}
 use Rattle.ir_grammar.specs.declared.lexeme.Lexeme.{Lexeme}
-use Rattle.ir_grammar.specs.Walk.{seen}
-use Rattle.ir_constants.specs.Indices.{IsIndex}
+use Rattle.ir_grammar.specs.Tokens.{seen}
+use Rattle.ir_constants.specs.Mirrors.Indices.{IsIndex}
 use Rattle.ir_constants.specs.Constants.{is_close_paren, index_at}
 use Rattle.ir_constants.proofs.Closed.{extended, closed, list_more, list_end}
 use Rattle.ir_constants.proofs.addresses.indices.Goals as goal

@@ -1,7 +1,7 @@
 -- the indices so far, and those that are left
 use Rattle.std.proofs.Common.{◌≡◌, ◌-◌, ◌≤◌, All, drop, length}
-use Rattle.ir_grammar.specs.Walk.{seen}
-use Rattle.ir_constants.specs.Indices.{IsIndex}
+use Rattle.ir_grammar.specs.Tokens.{seen}
+use Rattle.ir_constants.specs.Mirrors.Indices.{IsIndex}
 use Rattle.ir_constants.specs.Constants.{is_close_paren, index_at}
 use Rattle.ir_constants.proofs.Closed.{extended, closed}
 use Rattle.ir_constants.proofs.addresses.indices.Given as goal

@@ -1,12 +1,13 @@
 use Rattle.std.proofs.Common.{◌≡◌, ◌∙◌, ◌+◌, ◌<◌, ◌≤◌, ◌∷◌, [], ap, sym, refl, arith, length, drop, length-drop}
 use Rattle.std.proofs.lemmas.List.{take_rest}
 use Rattle.ir_grammar.specs.declared.lexeme.Lexeme.{Lexeme}
-use Rattle.ir_grammar.specs.Walk.{seen}
+use Rattle.ir_grammar.specs.Tokens.{seen}
 use Rattle.ir_scope.specs.Runs.{behind}
 use Rattle.ir_scope.specs.Scopes.{env_of}
 use Rattle.ir_constants.specs.Constants.{is_close_square, part_at, parts_at, constant_within}
 use Rattle.ir_constants.proofs.Closed.{extended, closed, list_more, list_bad}
-use Rattle.ir_constants.proofs.Parts.{front_address, front_square, front_brace, part_same, parts_more, parts_bad}
+use Rattle.ir_constants.proofs.Parts.{front_address, front_square, front_brace, parts_more, parts_bad}
+use Rattle.ir_constants.proofs.Spelling.{part_typed, part_untyped, part_known}
 use Rattle.ir_constants.proofs.constants.+constants.Goals as goal
 
 pub constant_within-returns-in_ok-address_of-in-Address-clause-exact : goal.constant_within-returns-in_ok-address_of-in-Address-clause-exact
@@ -32,22 +33,13 @@ list-reading-preserved t c =
           ∙ list_more is_close_square (part_at (env_of c.args.scope.now) (constant_within (env_of c.args.scope.now) c.args.depth) c.args.element.now) c.args.kept.now _ c.reading.at c.reading.parts c.in-Some.part c.in-Some.taken rest (sym c.ends_elements.ensures ∙ c.reading-test.true) (sym c.in-Some.is ∙ c.in_ok-part.ensures.exact) taken.0 taken.1
           ∙ c.reading.invariant.read;
       within = omega (arith, taken, ap (length {A = Lexeme}) rest, length-drop c.reading.at c.args.kept.now, c.reading.invariant.within);
+      known = part_known (env_of c.args.scope.now) (constant_within (env_of c.args.scope.now) c.args.depth) c.args.element.now _ _ (c.in-Some.part, c.in-Some.taken) c.front_name-known.ensures (sym c.in-Some.is ∙ c.in_ok-part.ensures.exact);
     }
 
 pub list-returns-in-None-clause-exact : goal.list-returns-in-None-clause-exact
 list-returns-in-None-clause-exact t c =
     list_bad is_close_square (part_at (env_of c.args.scope.now) (constant_within (env_of c.args.scope.now) c.args.depth) c.args.element.now) c.args.kept.now _ c.reading.at c.reading.parts (take_rest c.args.kept.now c.reading.at) (sym c.ends_elements.ensures ∙ c.reading-test.true) (sym c.in-None.is ∙ c.in_ok-part.ensures.exact)
     ∙ c.reading.invariant.read
-
-pub part-returns-in-Some-2-clause-exact : goal.part-returns-in-Some-2-clause-exact
-part-returns-in-Some-2-clause-exact t c =
-    part_same (env_of c.args.scope.now) (constant_within (env_of c.args.scope.now) c.args.depth) c.args.ty.now c.args.kept.now _ c.in-Some.found _ (sym c.in-Some.is ∙ c.in_ok-found.ensures.exact) (sym c.same_type.ensures ∙ c.if-not-same_type.false)
-    (take_rest c.args.kept.now c.in-Some.found.1) (sym c.in-Some-2.is ∙ c.in_ok-constant.ensures.exact)
-
-pub part-returns-clause-exact : goal.part-returns-clause-exact
-part-returns-clause-exact t c =
-    part_same (env_of c.args.scope.now) (constant_within (env_of c.args.scope.now) c.args.depth) c.args.ty.now c.args.kept.now _ c.in-Some.found _ (sym c.in-Some.is ∙ c.in_ok-found.ensures.exact) (sym c.same_type.ensures ∙ c.if-not-same_type.false)
-    (take_rest c.args.kept.now c.in-Some.found.1) (sym c.in-None-2.is ∙ c.in_ok-constant.ensures.exact)
 
 pub parts-returns-in-None-clause-exact : goal.parts-returns-in-None-clause-exact
 parts-returns-in-None-clause-exact t c =
@@ -64,3 +56,15 @@ parts-reading-preserved t c =
           ∙ c.reading.invariant.read;
       within = omega (arith, taken, ap (length {A = Lexeme}) rest, length-drop c.reading.at c.args.kept.now, c.reading.invariant.within);
     }
+
+pub part-returns-in-Some-2-clause-exact : goal.part-returns-in-Some-2-clause-exact
+part-returns-in-Some-2-clause-exact t c =
+    part_typed (env_of c.args.scope.now) (constant_within (env_of c.args.scope.now) c.args.depth) c.args.ty.now c.args.kept.now _ c.in-Some.behind _ (sym c.in-Some.is ∙ c.in_ok-behind.ensures.exact) (take_rest c.args.kept.now c.in-Some.behind) (sym c.in-Some-2.is ∙ c.in_ok-constant.ensures.exact)
+
+pub part-returns-in-None-2-clause-exact : goal.part-returns-in-None-2-clause-exact
+part-returns-in-None-2-clause-exact t c =
+    part_typed (env_of c.args.scope.now) (constant_within (env_of c.args.scope.now) c.args.depth) c.args.ty.now c.args.kept.now _ c.in-Some.behind _ (sym c.in-Some.is ∙ c.in_ok-behind.ensures.exact) (take_rest c.args.kept.now c.in-Some.behind) (sym c.in-None-2.is ∙ c.in_ok-constant.ensures.exact)
+
+pub part-returns-in-None-clause-exact : goal.part-returns-in-None-clause-exact
+part-returns-in-None-clause-exact t c =
+    part_untyped (env_of c.args.scope.now) (constant_within (env_of c.args.scope.now) c.args.depth) c.args.ty.now (seen c.args.kept.now) (sym c.in-None.is ∙ c.in_ok-behind.ensures.exact)

@@ -1,8 +1,9 @@
 -- what is read and what is left; so many arrays and structs may be open
 use Rattle.std.proofs.Common.{◌≡◌, ◌*◌, ◌+◌, ◌-◌, ◌≤◌, drop, length}
-use Rattle.ir_grammar.specs.Walk.{seen}
-use Rattle.ir_scope.specs.Scopes.{env_of}
+use Rattle.ir_grammar.specs.Tokens.{seen}
+use Rattle.ir_scope.specs.Scopes.{env_of, type_among}
 use Rattle.ir_constants.specs.Constants.{is_close_square, part_at, parts_at, constant_within}
+use Rattle.ir_constants.specs.Mirrors.Known.{IsKnown}
 use Rattle.ir_constants.proofs.Closed.{extended, closed}
 use Rattle.ir_constants.proofs.constants.+constants.Given as goal
 
@@ -10,6 +11,7 @@ abbrev pub invariant-list-reading : goal.invariant-list-reading
 invariant-list-reading l = record {
   read : extended l.parts l.at (closed is_close_square (part_at (env_of l.scope) (constant_within (env_of l.scope) l.depth) l.element) (seen (drop l.at l.kept))) ≡ closed is_close_square (part_at (env_of l.scope) (constant_within (env_of l.scope) l.depth) l.element) (seen l.kept);
   within : l.at ≤ length l.kept;
+  known : IsKnown (type_among l.scope.types) l.element l.known;
 }
 
 abbrev pub decreases-list-reading : goal.decreases-list-reading

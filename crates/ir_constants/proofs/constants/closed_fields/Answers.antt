@@ -1,6 +1,6 @@
 use Rattle.std.proofs.Common.{◌≡◌, ◌∙◌, true, false, drop, refl, sym}
 use Rattle.std.proofs.lemmas.List.{take_rest}
-use Rattle.ir_grammar.specs.Walk.{seen}
+use Rattle.ir_grammar.specs.Tokens.{seen}
 use Rattle.ir_scope.specs.Runs.{begins_with}
 use Rattle.ir_scope.specs.Types.{is_close_brace}
 use Rattle.ir_constants.proofs.Parts.{begins_there}

@@ -1,6 +1,6 @@
 use Rattle.std.proofs.Common.{◌∙◌, Some, None, sym}
-use Rattle.ir_grammar.specs.Walk.{seen}
-use Rattle.ir_operands.specs.Naming.{naming}
+use Rattle.ir_grammar.specs.Tokens.{seen}
+use Rattle.ir_operands.specs.Mirrors.Naming.{naming}
 use Rattle.ir_insts.proofs.Geps.{gep_is}
 use Rattle.ir_insts.proofs.insts.gep.Goals as goal
 

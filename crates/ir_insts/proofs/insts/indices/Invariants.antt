@@ -1,7 +1,7 @@
 -- the parts so far, and those that are left
 use Rattle.std.proofs.Common.{◌-◌, ◌≤◌, length}
-use Rattle.ir_grammar.specs.Walk.{seen}
-use Rattle.ir_operands.specs.Naming.{naming}
+use Rattle.ir_grammar.specs.Tokens.{seen}
+use Rattle.ir_operands.specs.Mirrors.Naming.{naming}
 use Rattle.ir_operands.specs.Operands.{operand_at, typed}
 use Rattle.ir_insts.specs.Insts.{is_integer}
 use Rattle.ir_operands.proofs.Runs.{Going}

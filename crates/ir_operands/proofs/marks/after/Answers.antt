@@ -1,7 +1,7 @@
 use Rattle.std.proofs.Common.{◌∙◌, ap}
 use Rattle.std.proofs.lemmas.List.{take_rest}
-use Rattle.ir_grammar.specs.Walk.{seen}
-use Rattle.ir_operands.proofs.Kept.{seen-drop}
+use Rattle.ir_grammar.specs.Tokens.{seen}
+use Rattle.ir_scope.proofs.Runs.{seen-drop}
 use Rattle.ir_operands.proofs.marks.after.Goals as goal
 
 pub returns-clause-rest : goal.returns-clause-rest

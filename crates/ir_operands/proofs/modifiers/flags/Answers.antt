@@ -1,5 +1,5 @@
 use Rattle.std.proofs.Common.{◌+◌, sym, arith}
-use Rattle.ir_grammar.specs.Walk.{seen}
+use Rattle.ir_grammar.specs.Tokens.{seen}
 use Rattle.ir_operands.specs.Operands.{with_flag}
 use Rattle.ir_operands.proofs.Gathered.{Gathered, flags_none, flags_more, flags_end}
 use Rattle.ir_operands.proofs.modifiers.flags.Goals as goal

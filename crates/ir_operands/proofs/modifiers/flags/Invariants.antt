@@ -1,6 +1,6 @@
 -- the flags so far, and those that are left
 use Rattle.std.proofs.Common.{◌-◌, ◌≤◌, length}
-use Rattle.ir_grammar.specs.Walk.{seen}
+use Rattle.ir_grammar.specs.Tokens.{seen}
 use Rattle.ir_operands.proofs.Gathered.{Gathered}
 use Rattle.ir_operands.proofs.modifiers.flags.Given as goal
 

@@ -1,7 +1,7 @@
 -- the entities so far, and what is left
 use Rattle.std.proofs.Common.{◌-◌, ◌≤◌, drop, length}
 use Rattle.ir_lexer.specs.Tokens.{texts_of}
-use Rattle.ir_parser.specs.Steps.{AreEntities}
+use Rattle.ir_parser.specs.Mirrors.Steps.{AreEntities}
 use Rattle.ir_parser.proofs.entities.split.Given as goal
 
 abbrev pub invariant-splitting : goal.invariant-splitting

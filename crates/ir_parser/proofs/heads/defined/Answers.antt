@@ -1,9 +1,9 @@
 use Rattle.std.proofs.Common.{◌∙◌, Some, None, ap, sym, option_map}
-use Rattle.ir_grammar.specs.Walk.{seen}
+use Rattle.ir_grammar.specs.Tokens.{seen}
 use Rattle.ir_scope.specs.Scopes.{env_of}
 use Rattle.ir_body.specs.Bodies.{body_at}
 use Rattle.ir_parser.specs.Items.{is_plain, with_body}
-use Rattle.ir_parser.specs.Steps.{head_of}
+use Rattle.ir_parser.specs.Mirrors.Steps.{head_of}
 use Rattle.ir_parser.proofs.Heading.{defined_by}
 use Rattle.ir_parser.proofs.heads.defined.Goals as goal
 

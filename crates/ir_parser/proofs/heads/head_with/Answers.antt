@@ -1,6 +1,6 @@
 use Rattle.std.proofs.Common.{◌∙◌, ap, sym, map}
 use Rattle.ir_syntax.specs.declared.item.Param.{Param}
-use Rattle.ir_grammar.specs.Walk.{seen}
+use Rattle.ir_grammar.specs.Tokens.{seen}
 use Rattle.ir_parser.specs.Items.{are_params, names_from, head_with}
 use Rattle.ir_parser.proofs.Heading.{no_head, head_found}
 use Rattle.ir_parser.proofs.heads.head_with.Goals as goal

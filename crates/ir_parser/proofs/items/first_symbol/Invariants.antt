@@ -1,6 +1,6 @@
 -- what is left
 use Rattle.std.proofs.Common.{◌≡◌, drop}
-use Rattle.ir_grammar.specs.Walk.{seen}
+use Rattle.ir_grammar.specs.Tokens.{seen}
 use Rattle.ir_parser.specs.Items.{first_symbol}
 use Rattle.ir_parser.proofs.items.first_symbol.Given as goal
 

@@ -1,6 +1,6 @@
 -- what was found, and what is left
 use Rattle.std.proofs.Common.{◌≡◌, drop, None}
-use Rattle.ir_grammar.specs.Walk.{seen}
+use Rattle.ir_grammar.specs.Tokens.{seen}
 use Rattle.ir_parser.specs.Items.{last_align}
 use Rattle.ir_parser.proofs.variables.last_align.Given as goal
 

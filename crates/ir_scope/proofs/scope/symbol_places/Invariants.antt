@@ -1,6 +1,6 @@
 -- the names so far
 use Rattle.std.proofs.Common.{take}
-use Rattle.ir_scope.specs.Placed.{ArePlaces}
+use Rattle.ir_scope.specs.Mirrors.Placed.{ArePlaces}
 use Rattle.ir_scope.proofs.Placing.{entries_by}
 use Rattle.ir_scope.proofs.scope.symbol_places.Given as goal
 

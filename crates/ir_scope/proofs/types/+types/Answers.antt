@@ -2,7 +2,7 @@ use Rattle.std.proofs.Common.{◌≡◌, ◌∙◌, ◌≤◌, ◌+◌, ◌-◌,
 use Rattle.std.proofs.lemmas.List.{take_rest}
 use Rattle.ir_types.specs.declared.shape.Ty.{Ty}
 use Rattle.ir_grammar.specs.declared.lexeme.Lexeme.{Lexeme}
-use Rattle.ir_grammar.specs.Walk.{seen}
+use Rattle.ir_grammar.specs.Tokens.{seen}
 use Rattle.ir_scope.specs.Runs.{runs}
 use Rattle.ir_scope.specs.Scopes.{type_among}
 use Rattle.ir_scope.specs.Types.{type_at, begins_field}

@@ -1,6 +1,6 @@
 -- The fields so far, and those that are left. Each call goes to a lower depth, or to a part of what it reads.
 use Rattle.std.proofs.Common.{◌≡◌, ◌+◌, ◌-◌, ◌*◌, ◌≤◌, drop, length}
-use Rattle.ir_grammar.specs.Walk.{seen}
+use Rattle.ir_grammar.specs.Tokens.{seen}
 use Rattle.ir_scope.specs.Runs.{runs}
 use Rattle.ir_scope.specs.Scopes.{type_among}
 use Rattle.ir_scope.specs.Types.{type_at, begins_field}

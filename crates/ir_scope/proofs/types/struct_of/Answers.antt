@@ -1,6 +1,6 @@
 use Rattle.std.proofs.Common.{◌∙◌, sym, refl, arith, not, ap}
 use Rattle.std.proofs.lemmas.List.{take_rest}
-use Rattle.ir_grammar.specs.Walk.{seen}
+use Rattle.ir_grammar.specs.Tokens.{seen}
 use Rattle.ir_scope.proofs.Measuring.{struct_measures}
 use Rattle.ir_scope.proofs.Typing.{struct_fits, struct_open, struct_deep}
 use Rattle.ir_scope.proofs.types.struct_of.Goals as goal

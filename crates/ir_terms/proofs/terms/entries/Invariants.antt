@@ -1,7 +1,7 @@
 -- the parts so far, and those that are left
 use Rattle.std.proofs.Common.{◌-◌, ◌≤◌, length}
-use Rattle.ir_grammar.specs.Walk.{seen}
-use Rattle.ir_operands.specs.Naming.{naming}
+use Rattle.ir_grammar.specs.Tokens.{seen}
+use Rattle.ir_operands.specs.Mirrors.Naming.{naming}
 use Rattle.ir_terms.specs.Terms.{is_open_square, entry_at}
 use Rattle.ir_operands.proofs.Runs.{Going}
 use Rattle.ir_terms.proofs.terms.entries.Given as goal

@@ -1,6 +1,6 @@
 use Rattle.std.proofs.Common.{◌∙◌, sym, ap}
 use Rattle.std.specs.Fmt.{decimal}
-use Rattle.ir_grammar.specs.Walk.{seen}
+use Rattle.ir_grammar.specs.Tokens.{seen}
 use Rattle.ir_locals.proofs.Steps.{stops_at_first}
 use Rattle.ir_locals.proofs.table.Locals.add_blocks.Goals as goal
 

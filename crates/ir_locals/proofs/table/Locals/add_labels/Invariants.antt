@@ -1,6 +1,6 @@
 -- the names so far, and those that are left
 use Rattle.std.proofs.Common.{◌≡◌, ◌+◌, ◌≤◌, ◌++◌, true, drop}
-use Rattle.ir_grammar.specs.Walk.{seen}
+use Rattle.ir_grammar.specs.Tokens.{seen}
 use Rattle.ir_locals.specs.declared.local.Local.TheVariants.{Block}
 use Rattle.ir_locals.specs.Locals.{numbered, label_names, are_locals}
 use Rattle.ir_locals.proofs.table.Locals.add_labels.Given as goal

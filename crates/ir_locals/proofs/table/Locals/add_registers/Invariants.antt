@@ -1,6 +1,6 @@
 -- the names so far, and those that are left
 use Rattle.std.proofs.Common.{◌≡◌, ◌≤◌, ◌++◌, true, drop}
-use Rattle.ir_grammar.specs.Walk.{seen}
+use Rattle.ir_grammar.specs.Tokens.{seen}
 use Rattle.ir_locals.specs.Locals.{named, results_from, result_names, are_locals}
 use Rattle.ir_locals.specs.Adding.{waiting_name}
 use Rattle.ir_locals.proofs.table.Locals.add_registers.Given as goal

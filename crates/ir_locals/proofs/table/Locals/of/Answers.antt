@@ -1,4 +1,4 @@
-use Rattle.ir_grammar.specs.Walk.{seen}
+use Rattle.ir_grammar.specs.Tokens.{seen}
 use Rattle.ir_locals.proofs.Steps.{stops_at_params, stops_at_results}
 use Rattle.ir_locals.proofs.table.Locals.of.Goals as goal
 

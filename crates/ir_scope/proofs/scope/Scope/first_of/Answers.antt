@@ -1,7 +1,7 @@
 use Rattle.std.proofs.Common.{List, map, subst, ◌∙◌}
 use Rattle.ir_types.specs.declared.bytes.Bytes.{Bytes}
 use Rattle.ir_types.specs.declared.shape.Ty.{Ty}
-use Rattle.ir_scope.specs.Placed.{ArePlaces}
+use Rattle.ir_scope.specs.Mirrors.Placed.{ArePlaces}
 use Rattle.ir_scope.proofs.Placing.{entries_by}
 use Rattle.ir_scope.proofs.scope.Scope.first_of.Goals as goal
 

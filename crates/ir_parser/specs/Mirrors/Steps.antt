@@ -2,9 +2,10 @@
 use Rattle.std.specs.Prelude.{◌≡◌, ℕ, Bool, true, List, [], Option, Some, None, Ok, Err, ⊤, if◌then◌else◌}
 use Rattle.std.specs.Fmt.{decimal}
 use Rattle.ir_lexer.specs.Spelled.{is_decimal}
+use Rattle.ir_types.specs.Names.{is_name}
 use Rattle.ir_lexer.specs.Tokens.{IsBadByte}
 use Rattle.ir_syntax.specs.declared.item.Item.{Item}
-use Rattle.ir_grammar.specs.Walk.{Kept, Piece, seen}
+use Rattle.ir_grammar.specs.Tokens.{Kept, Piece, seen}
 use Rattle.ir_scope.specs.Scopes.{Env}
 use Rattle.type_names.specs.TypeNames.{named_types}
 use Rattle.ir_parser.specs.declared.fault.ReadFault.{ReadFault}
@@ -13,7 +14,7 @@ use Rattle.ir_parser.specs.declared.heads.Head.{Head as RustHead}
 use Rattle.ir_parser.specs.declared.items.Resolved.{Resolved}
 use Rattle.ir_parser.specs.declared.items.Resolved.TheVariants as is
 use Rattle.ir_parser.specs.Items.{Head}
-use Rattle.ir_parser.specs.Modules.{Kind, OfType, OfItem, Neither, first_item, items_from, module_of}
+use Rattle.ir_parser.specs.Modules.{Kind, OfType, OfItem, OfDropped, OfNone, first_item, items_from, module_of}
 use Rattle.ir_parser.specs.Spelled.{Entity, Splits, kept_of, IsNotSpelled}
 
 -- ---- parameters and heads
@@ -48,7 +49,13 @@ item_or (Some item) = is.Item item
 abbrev pub resolved_as : Env → Bool → ℕ → List Kept → Kind → Resolved
 resolved_as env stands place e (OfType named) = if stands then is.Type else is.Unresolved
 resolved_as env stands place e (OfItem name) = item_or (first_item env place name e)
-resolved_as env stands place e Neither = is.Nothing
+resolved_as env stands place e (OfDropped name) = if is_name name then is.Nothing else is.Unresolved
+resolved_as env stands place e OfNone = is.Nothing
+
+-- what an entity is that is neither a named type nor an item, by its name where it is a declaration that is dropped
+abbrev pub nothing_or : Option (List ℕ) → Resolved
+nothing_or None = is.Nothing
+nothing_or (Some name) = if is_name name then is.Nothing else is.Unresolved
 
 -- ---- causes of faults, step by step
 

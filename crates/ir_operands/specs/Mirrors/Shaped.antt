@@ -10,7 +10,7 @@ use Rattle.ir_operands.specs.Operands.{Names}
 use Rattle.ir_grammar.specs.declared.shape.Shape.TheVariants as is
 use Rattle.ir_grammar.specs.declared.shape.Free.TheVariants as free
 use Rattle.ir_grammar.specs.declared.shape.Flag.{Flag}
-use Rattle.ir_grammar.specs.Walk.{Kept}
+use Rattle.ir_grammar.specs.Tokens.{Kept}
 
 -- the flag that stands first
 abbrev pub first_flag : List Kept → Option Flag

@@ -2,7 +2,7 @@
 use Rattle.std.specs.Prelude.{ℕ, List, ◌++◌, [], Option, option_map, option_and_then}
 use Rattle.ir_syntax.specs.declared.body.Block.{Block}
 use Rattle.ir_syntax.specs.declared.body.Body.{Body}
-use Rattle.ir_grammar.specs.Walk.{Kept}
+use Rattle.ir_grammar.specs.Tokens.{Kept}
 use Rattle.ir_body.specs.declared.blocks.Builder.{Builder}
 use Rattle.ir_operands.specs.Operands.{Names}
 use Rattle.ir_body.specs.Lines.{Line}

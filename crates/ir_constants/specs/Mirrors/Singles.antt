@@ -3,7 +3,7 @@ use Rattle.std.specs.Prelude.{Option}
 use Rattle.ir_types.specs.declared.shape.Ty.{Ty}
 use Rattle.ir_types.specs.declared.shape.Ty.TheOpen.{Ty-F}
 use Rattle.ir_syntax.specs.declared.constant.Const.{Const}
-use Rattle.ir_grammar.specs.Walk.{Kept}
+use Rattle.ir_grammar.specs.Tokens.{Kept}
 use Rattle.ir_scope.specs.Scopes.{Env}
 use Rattle.ir_constants.specs.Constants.{scalar_of, array_of, struct_of}
 

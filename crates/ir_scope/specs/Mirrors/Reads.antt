@@ -4,7 +4,7 @@ use Rattle.ir_types.specs.declared.shape.Ty.{Ty}
 use Rattle.ir_types.specs.declared.shape.Ty.TheViews.{Array, Struct}
 use Rattle.ir_grammar.specs.declared.shape.Shape.TheVariants as is
 use Rattle.ir_grammar.specs.Numbers.{number_of}
-use Rattle.ir_grammar.specs.Walk.{Kept}
+use Rattle.ir_grammar.specs.Tokens.{Kept}
 use Rattle.ir_scope.specs.Runs.{Reading, behind, runs, closed_by}
 use Rattle.ir_scope.specs.Types.{type_at, fitting, is_close_brace, begins_field}
 

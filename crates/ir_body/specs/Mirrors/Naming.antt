@@ -1,6 +1,6 @@
 -- What contracts see of lines.
 use Rattle.std.specs.Prelude.{ℕ, List, count_by, Option, option_map}
-use Rattle.ir_grammar.specs.Walk.{Kept}
+use Rattle.ir_grammar.specs.Tokens.{Kept}
 use Rattle.ir_locals.specs.Locals.{is_label}
 use Rattle.ir_body.specs.declared.lines.Line.{Line as SeenLine}
 use Rattle.ir_body.specs.declared.lines.Line.TheVariants as seen_as

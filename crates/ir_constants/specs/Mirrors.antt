@@ -1,0 +1,5 @@
+-- What the code does step by step, as functions on lists: inner functions have it as their clause, and laws join it to
+-- the definitions.
+pub mod Singles
+pub mod Indices
+pub mod Known

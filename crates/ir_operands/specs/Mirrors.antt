@@ -1,0 +1,4 @@
+-- What the code does step by step, as functions on lists: inner functions have it as their clause, and laws join it to
+-- the definitions.
+pub mod Naming
+pub mod Shaped
