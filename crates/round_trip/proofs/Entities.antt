@@ -4,7 +4,6 @@ pub mod Steps
 pub mod Plain
 pub mod Heads
 pub mod Lines
-pub mod VoidLines
 pub mod Bodies
 pub mod Functions
 pub mod Variables

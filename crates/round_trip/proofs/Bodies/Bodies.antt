@@ -13,7 +13,7 @@ use Rattle.ir_syntax.specs.declared.body.Body.{Body}
 use Rattle.ir_syntax.specs.declared.item.Item.{Item}
 use Rattle.ir_syntax.specs.Results.{result_type, block_results, results, block_count, count}
 use Rattle.ir_syntax.specs.FormedBody.{FormedBody}
-use Rattle.ir_grammar.specs.Walk.{Kept}
+use Rattle.ir_grammar.specs.Tokens.{Kept}
 use Rattle.ir_scope.specs.Scopes.{Env}
 use Rattle.ir_locals.specs.Locals.{has_result, result_name, results_from, is_label, label_names, begins_labelled, are_locals}
 use Rattle.ir_operands.specs.Operands.{Names}

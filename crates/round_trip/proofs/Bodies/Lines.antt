@@ -15,7 +15,7 @@ use Rattle.ir_syntax.specs.declared.body.Block.{Block}
 use Rattle.ir_syntax.specs.Results.{result_type, block_results}
 use Rattle.ir_grammar.specs.declared.shape.Shape.{Shape}
 use Rattle.ir_grammar.specs.declared.shape.Shape.TheVariants as is
-use Rattle.ir_grammar.specs.Walk.{Kept}
+use Rattle.ir_grammar.specs.Tokens.{Kept}
 use Rattle.ir_scope.specs.Runs.{runs, begins_with, closed_by}
 use Rattle.ir_scope.specs.Types.{is_close_brace}
 use Rattle.ir_scope.proofs.Runs.{runs-step}

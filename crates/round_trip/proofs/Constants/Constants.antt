@@ -14,6 +14,7 @@ use Rattle.ir_types.specs.declared.shape.Ty.TheViews.{Array, Struct, roll-Ty, ro
 use Rattle.ir_types.specs.declared.shape.Ty.TheVariants.{rolls-Array, rolls-Struct}
 use Rattle.ir_types.specs.Nesting.{greatest, nesting, nodes}
 use Rattle.ir_types.proofs.Nestings.{nesting-Array, nesting-Struct, nodes-Struct}
+use Rattle.ir_types.specs.Names.{IsName}
 use Rattle.ir_syntax.specs.declared.constant.Const.{Const}
 use Rattle.ir_syntax.specs.declared.constant.Const.TheOpen.{Const-F}
 use Rattle.ir_syntax.specs.declared.constant.Const.TheBlock as const
@@ -23,7 +24,7 @@ use Rattle.ir_syntax.specs.declared.constant.Const.TheFolds.{map-Const, ind-Cons
 use Rattle.ir_syntax.specs.Suits.{IsType, Suits, suits, takes_address, takes_parts, each_takes}
 use Rattle.ir_syntax.proofs.SuitLemmas.{suits-Int, suits-Null, suits-Addr, suits-Zero, suits-Text, suits-Many}
 use Rattle.ir_grammar.specs.declared.shape.Shape.{Shape}
-use Rattle.ir_grammar.specs.Walk.{Kept}
+use Rattle.ir_grammar.specs.Tokens.{Kept}
 use Rattle.ir_scope.specs.Runs.{behind, runs, closed_by}
 use Rattle.ir_scope.specs.Scopes.{Env}
 use Rattle.ir_scope.specs.Types.{same_type, is_close_brace}
@@ -85,7 +86,7 @@ struct_fits depth ty fields made h =
     let within : is_type_in_range (Struct fields) ≡ true = ap is_type_in_range (sym own) ∙ h.within in
     fields_fit depth fields (omega (arith, nests, nesting-Struct fields)) (omega (arith, written.nests, nesting-Struct fields)) (omega (arith, written.has_nodes, nodes-Struct fields)) (sym (in_range-Struct fields) ∙ within)
 
-module _ (env : Env) (distinct : AllPairs (λ a b. a ≢ b) env.symbols) (bytes : All AreBytes env.symbols) where
+module _ (env : Env) (distinct : AllPairs (λ a b. a ≢ b) env.symbols) (named : All IsName env.symbols) (bytes : All AreBytes env.symbols) where
   abbrev kept : Const → Ty → Lexemes
   kept = constant_kept env.symbols
 
@@ -218,7 +219,7 @@ module _ (env : Env) (distinct : AllPairs (λ a b. a ≢ b) env.symbols) (bytes 
   layer_back (Const-F.Addr place offset) = subst IsBack (sym (rolls-Addr place offset)) (λ ty depth h fit within.
       let both = and_parts (takes_address (out-Ty ty)) (nat_lt place (length env.symbols)) (sym (suits-Addr (length env.symbols) place offset ty) ∙ fit) in
       subst (back_as (const.Addr place offset) ty depth) (sym (constant_kept-Addr env.symbols place offset ty))
-      (addr_back env distinct bytes offset depth place ty (sym (in_range-Addr place offset) ∙ within) (ltb-true place (length env.symbols) both.1) both.0))
+      (addr_back env distinct named bytes offset depth place ty (sym (in_range-Addr place offset) ∙ within) (ltb-true place (length env.symbols) both.1) both.0))
   layer_back Const-F.Undef = subst IsBack (sym rolls-Undef) (λ ty depth h fit within.
       subst (back_as const.Undef ty depth) (sym (constant_kept-Undef env.symbols ty)) (undef_back env depth ty))
   layer_back Const-F.Poison = subst IsBack (sym rolls-Poison) (λ ty depth h fit within.
@@ -236,6 +237,6 @@ module _ (env : Env) (distinct : AllPairs (λ a b. a ≢ b) env.symbols) (bytes 
   all_back = ind-Const IsBack (λ x y made. subst (λ z. IsBack (roll-Const z)) made (layer_back y))
 
 -- A constant is read again at its type, with so many lexemes as were written.
-pub constant_back : (env : Env) (c : Const) (ty : Ty) (rest : Lexemes) → AllPairs (λ a b. a ≢ b) env.symbols → All AreBytes env.symbols → Suits (length env.symbols) ty c → IsType ty → is_type_in_range ty ≡ true → is_constant_in_range c ≡ true →
+pub constant_back : (env : Env) (c : Const) (ty : Ty) (rest : Lexemes) → AllPairs (λ a b. a ≢ b) env.symbols → All IsName env.symbols → All AreBytes env.symbols → Suits (length env.symbols) ty c → IsType ty → is_type_in_range ty ≡ true → is_constant_in_range c ≡ true →
     constant_at env ty (constant_kept env.symbols c ty ++ rest) ≡ Some (c, length (constant_kept env.symbols c ty))
-constant_back env c ty rest distinct bytes fit h ranged within = all_back env distinct bytes c ty 64 (record { nests = h.nests; type = h; within = ranged }) fit within rest
+constant_back env c ty rest distinct named bytes fit h ranged within = all_back env distinct named bytes c ty 64 (record { nests = h.nests; type = h; within = ranged }) fit within rest

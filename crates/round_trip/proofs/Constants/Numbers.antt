@@ -8,6 +8,8 @@ use Rattle.std.proofs.lemmas.Option.{unwrap_or-slice_get}
 use Rattle.std.proofs.lemmas.Slice.Eq.{bytes_eq-Decides}
 use Rattle.ir_types.specs.declared.scalar.Scalar.{Scalar}
 use Rattle.ir_types.specs.declared.scalar.Scalar.TheVariants.{I1, I8, I16, I32, I64, Ptr}
+use Rattle.ir_types.specs.Names.{IsName, is_name}
+use Rattle.ir_types.proofs.Naming.{is-name}
 use Rattle.ir_syntax.specs.Suits.{is_number_of}
 use Rattle.name_table.specs.Places.{place_among}
 use Rattle.ir_lexer.specs.Texts.{name_of}
@@ -15,6 +17,7 @@ use Rattle.ir_grammar.specs.declared.shape.Shape.TheVariants as is
 use Rattle.ir_grammar.specs.declared.shape.Value.TheVariants as val
 use Rattle.ir_grammar.specs.Numbers.{number_of}
 use Rattle.ir_scope.specs.Integers.{number, integer_of}
+use Rattle.ir_constants.specs.Constants.{symbol_at}
 use Rattle.ir_writer.specs.Names.{name_text, name_at}
 use Rattle.ir_writer.specs.Constants.{signed_text}
 use Rattle.ir_writer.specs.Ranges.{AreBytes, is_offset}
@@ -85,9 +88,12 @@ placed (name ∷ names) (suc place) distinct within =
     ∙ ap (option_map (λ k. suc k)) (placed names place (λ i j d less inside. distinct (suc i) (suc j) d (omega (arith, less)) (omega (arith, inside))) (omega (arith, within)))
 
 -- The name of an item, as it is written, is found at the item's place.
-pub symbol_read : (names : List (List ℕ)) (place : ℕ) → AllPairs (λ a b. a ≢ b) names → All AreBytes names → place < length names →
-    place_among (name_of (drop 1 (64 ∷ name_text (name_at names place)))) names ≡ Some place
-symbol_read names place distinct bytes within =
-    let is_name : name_at names place ≡ get_or names place [] = unwrap_or-slice_get names place [] in
-    let own : AreBytes (name_at names place) = subst AreBytes (sym is_name) (bytes place [] within) in
-    ap (λ name. place_among name names) (name_back (name_at names place) own ∙ is_name) ∙ placed names place distinct within
+pub symbol_read : (names : List (List ℕ)) (place : ℕ) → AllPairs (λ a b. a ≢ b) names → All IsName names → All AreBytes names → place < length names →
+    symbol_at names (name_of (drop 1 (64 ∷ name_text (name_at names place)))) ≡ Some place
+symbol_read names place distinct named bytes within =
+    let here : name_at names place ≡ get_or names place [] = unwrap_or-slice_get names place [] in
+    let own : AreBytes (name_at names place) = subst AreBytes (sym here) (bytes place [] within) in
+    let keeps : is_name (get_or names place []) ≡ true = is-name (get_or names place []) (named place [] within) in
+    ap (symbol_at names) (name_back (name_at names place) own ∙ here)
+    ∙ cond-true (is_name (get_or names place [])) (place_among (get_or names place []) names) None keeps
+    ∙ placed names place distinct within

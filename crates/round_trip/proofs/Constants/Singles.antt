@@ -9,18 +9,19 @@ use Rattle.ir_types.specs.declared.scalar.Scalar.{Scalar}
 use Rattle.ir_types.specs.declared.scalar.Scalar.TheVariants.{I1, I8, I16, I32, I64, Ptr}
 use Rattle.ir_types.specs.declared.shape.Ty.{Ty, out-Ty}
 use Rattle.ir_types.specs.declared.shape.Ty.TheOpen.{Ty-F}
+use Rattle.ir_types.specs.Scalars.{signed_value}
+use Rattle.ir_types.specs.Names.{IsName}
 use Rattle.ir_syntax.specs.declared.constant.Const.{Const}
 use Rattle.ir_syntax.specs.declared.constant.Const.TheBlock as const
 use Rattle.ir_syntax.specs.Suits.{is_pointer, is_byte, takes_number, takes_address, takes_zero, takes_text}
 use Rattle.ir_grammar.specs.declared.shape.Shape.TheVariants as is
 use Rattle.ir_grammar.specs.declared.shape.Value.{Value}
 use Rattle.ir_grammar.specs.declared.shape.Value.TheVariants as val
-use Rattle.ir_grammar.specs.Walk.{Kept}
+use Rattle.ir_grammar.specs.Tokens.{Kept}
 use Rattle.ir_scope.specs.Runs.{behind}
 use Rattle.ir_scope.specs.Scopes.{Env}
 use Rattle.ir_scope.specs.Integers.{number}
 use Rattle.ir_constants.specs.Constants.{Place, single, is_pointer_type, address_of, constant_within}
-use Rattle.ir_constants.specs.Offsets.{signed}
 use Rattle.ir_writer.specs.Names.{quoted}
 use Rattle.ir_writer.specs.Constants.{signed_text}
 use Rattle.ir_writer.specs.Ranges.{AreBytes, is_offset}
@@ -132,7 +133,7 @@ module _ (env : Env) where
 
   -- ---- addresses
 
-  module _ (distinct : AllPairs (λ a b. a ≢ b) env.symbols) (bytes : All AreBytes env.symbols) where
+  module _ (distinct : AllPairs (λ a b. a ≢ b) env.symbols) (named : All IsName env.symbols) (bytes : All AreBytes env.symbols) where
     symbol_alone : (place depth : ℕ) (ty : Ty) (rest : Lexemes) → constant_within env depth ty (symbol_kept env.symbols place ∷ rest) ≡ option_map (λ c. (c, 1)) (single env (out-Ty ty) (symbol_kept env.symbols place))
     symbol_alone place zero ty rest = refl
     symbol_alone place (suc depth) ty rest = refl
@@ -141,7 +142,7 @@ module _ (env : Env) where
     symbol_at place within (Ty-F.Array count element) h = absurd (false≢true h)
     symbol_at place within (Ty-F.Struct fields) h = absurd (false≢true h)
     symbol_at place within (Ty-F.One s) h =
-        ap (λ found. cond (is_pointer s) (option_map (λ k. const.Addr k (pos 0)) found) None) (symbol_read env.symbols place distinct bytes within)
+        ap (λ found. cond (is_pointer s) (option_map (λ k. const.Addr k (pos 0)) found) None) (symbol_read env.symbols place distinct named bytes within)
         ∙ cond-true (is_pointer s) (Some (const.Addr place (pos 0))) None h
 
     pointer_takes : (x : Ty-F Ty) → takes_address x ≡ true → is_pointer_type x ≡ true
@@ -150,14 +151,14 @@ module _ (env : Env) where
     pointer_takes (Ty-F.Struct fields) h = absurd (false≢true h)
 
     abbrev pointer_by : Ty → Option (Place × ℕ) → Option (Const × ℕ)
-    pointer_by ty found = behind 1 (cond (is_pointer_type (out-Ty ty)) (option_map (λ f. (const.Addr f.0.0 (signed f.0.1), f.1)) found) None)
+    pointer_by ty found = behind 1 (cond (is_pointer_type (out-Ty ty)) (option_map (λ f. (const.Addr f.0.0 (signed_value I64 f.0.1), f.1)) found) None)
 
     moved_alone : (offset : ℤ) (depth place : ℕ) (ty : Ty) → is_offset offset ≡ true → place < length env.symbols → takes_address (out-Ty ty) ≡ true → (rest : Lexemes) →
         constant_within env depth ty (moved_kept env.symbols place offset ++ rest) ≡ Some (const.Addr place offset, 6)
     moved_alone offset depth place ty h within takes rest =
         at_any depth
-        ∙ ap (pointer_by ty) (address_back env 63 place offset rest distinct bytes within h)
-        ∙ ap (behind 1) (cond-true (is_pointer_type (out-Ty ty)) (Some (const.Addr place (signed ((0 + unsigned offset) % 2 ^ 64)), 5)) None (pointer_takes (out-Ty ty) takes))
+        ∙ ap (pointer_by ty) (address_back env 63 place offset rest distinct named bytes within h)
+        ∙ ap (behind 1) (cond-true (is_pointer_type (out-Ty ty)) (Some (const.Addr place (signed_value I64 ((0 + unsigned offset) % 2 ^ 64)), 5)) None (pointer_takes (out-Ty ty) takes))
         ∙ ap (λ z. Some (const.Addr place z, 6)) (moved_back offset h)
       where
         at_any : (depth : ℕ) → constant_within env depth ty (moved_kept env.symbols place offset ++ rest) ≡ behind 1 (address_of env (out-Ty ty) (drop 1 (moved_kept env.symbols place offset ++ rest)))

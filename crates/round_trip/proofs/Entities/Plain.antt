@@ -21,7 +21,7 @@ use Rattle.ir_syntax.specs.declared.item.Var.{Var}
 use Rattle.ir_syntax.specs.declared.item.Func.{Func}
 use Rattle.ir_syntax.specs.declared.item.Item.{Item}
 use Rattle.ir_syntax.specs.declared.item.Item.TheVariants as item
-use Rattle.ir_grammar.specs.Walk.{shape}
+use Rattle.ir_grammar.specs.Tokens.{shape}
 use Rattle.ir_writer.specs.Words.{Parts, space, line_end, open_paren, close_paren, open_brace, close_brace, listed, more, scalar, returned, linkage_parts, ext_before, ext_behind}
 use Rattle.ir_writer.specs.Constants.{type_parts, constant_parts}
 use Rattle.ir_writer.specs.Instructions.{param_text, local, align_parts, dots, inst_parts, phi_parts, term_parts, line, named, phi_lines, inst_lines, block_parts, blocks_parts}

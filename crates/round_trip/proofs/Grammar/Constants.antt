@@ -12,15 +12,15 @@ use Rattle.ir_syntax.specs.declared.constant.Const.TheViews.{roll-Const}
 use Rattle.ir_syntax.specs.declared.constant.Const.TheFolds.{map-Const, fold-roll-Const, ind-Const}
 use Rattle.ir_syntax.specs.Suits.{suits, suits_step, takes_parts, each_takes}
 use Rattle.ir_grammar.specs.declared.shape.Shape.TheVariants as is
-use Rattle.ir_grammar.specs.declared.symbol.Symbol.{Symbol}
-use Rattle.ir_grammar.specs.declared.symbol.Symbol.TheVariants as sym
+use Rattle.ir_grammar.specs.declared.grammar.Item.TheVariants as item
+use Rattle.ir_grammar.specs.declared.grammar.Name.TheVariants as the
 use Rattle.ir_writer.specs.Words.{Parts, more}
 use Rattle.ir_writer.specs.Constants.{typed_part, typed_fields, many_at, constant_step, constant_parts}
 use Rattle.ir_writer.specs.Ranges.{type_in_range, is_type_in_range}
 use Rattle.round_trip.proofs.Grammar.Kept.{Lexemes, joined, part_kept, fields_kept, many_kept, constant_kept_step, constant_kept}
-use Rattle.round_trip.proofs.Grammar.Walking.{goes}
+use Rattle.round_trip.proofs.Grammar.Walking.{goes, Items, end_brace, end_square}
 use Rattle.round_trip.proofs.Grammar.Goes.{no_records}
-use Rattle.round_trip.proofs.Grammar.Parts.{Through, through_as, nothing, spaced, keeps, drops, then_on, Begins, begun}
+use Rattle.round_trip.proofs.Grammar.Parts.{Through, through_as, nothing, spaced, keeps, drops, then_on, Begins, separated_begins, begun}
 use Rattle.round_trip.proofs.Grammar.Types.{type_through}
 use Rattle.round_trip.proofs.Grammar.Singles.{AreRead, number_through, address_through}
 
@@ -43,29 +43,17 @@ range_out : (ty : Ty) → is_type_in_range ty ≡ type_in_range (map-Ty Ty Bool 
 unfolding is_type_in_range
 range_out ty = fold_out-Ty Bool type_in_range ty
 
--- ---- a constant stands in a list, and a type before it
+-- ---- an element begins with its type
 
-element_begins : (next : List Symbol) → Begins (sym.AnyType ∷ sym.ElementValue ∷ next) (sym.FirstElement ∷ next)
-element_begins next is.CloseSquare kept_as after e = cc
+element_begins : (next : Items) → Begins (item.One the.Type ∷ item.One the.Constant ∷ next) (item.One the.Element ∷ next)
+element_begins next is.Local kept_as after e = e
 element_begins next _ kept_as after e = e
-
-value_begins : (next : List Symbol) → Begins (sym.Constant ∷ sym.MoreElements ∷ next) (sym.ElementValue ∷ next)
-value_begins next is.Local kept_as after e = e
-value_begins next _ kept_as after e = e
-
-part_begins : (next : List Symbol) → Begins (sym.AnyType ∷ sym.PartValue ∷ next) (sym.FirstPart ∷ next)
-part_begins next is.CloseBrace kept_as after e = cc
-part_begins next _ kept_as after e = e
-
-part_value_begins : (next : List Symbol) → Begins (sym.Constant ∷ sym.MoreParts ∷ next) (sym.PartValue ∷ next)
-part_value_begins next is.Local kept_as after e = e
-part_value_begins next _ kept_as after e = e
 
 -- ---- constants
 
 module _ (names : List (List ℕ)) (read : AreRead names) (items : ℕ) where
   abbrev IsThrough : Const → Type 0
-  IsThrough c = (ty : Ty) → suits items c ty ≡ true → is_type_in_range ty ≡ true → (next : List Symbol) → Through (sym.Constant ∷ next) (constant_parts names c ty) (constant_kept names c ty) next
+  IsThrough c = (ty : Ty) → suits items c ty ≡ true → is_type_in_range ty ≡ true → (next : Items) → Through (item.One the.Constant ∷ next) (constant_parts names c ty) (constant_kept names c ty) next
 
   -- a constant with a proof of it
   abbrev Shown : Type 0
@@ -74,35 +62,30 @@ module _ (names : List (List ℕ)) (read : AreRead names) (items : ℕ) where
   abbrev constants : List Shown → List Const
   constants cs = map (λ c. c.0) cs
 
-  element_through : (c : Shown) (element : Ty) → suits items c.0 element ≡ true → is_type_in_range element ≡ true → (next : List Symbol) →
-      Through (sym.AnyType ∷ sym.ElementValue ∷ next) (typed_part (constant_parts names c.0) element) (part_kept (constant_kept names c.0) element) (sym.MoreElements ∷ next)
-  element_through c element suited range next =
-      then_on (type_through element range (sym.ElementValue ∷ next)) (spaced (begun (omega arith) (value_begins next) (c.1 element suited range (sym.MoreElements ∷ next))))
+  -- T C
+  element_through : (c : Shown) (ty : Ty) → suits items c.0 ty ≡ true → is_type_in_range ty ≡ true → (next : Items) →
+      Through (item.One the.Element ∷ next) (typed_part (constant_parts names c.0) ty) (part_kept (constant_kept names c.0) ty) next
+  element_through c ty suited range next = begun (omega arith) (element_begins next) (then_on (type_through ty range (item.One the.Constant ∷ next)) (spaced (c.1 ty suited range next)))
 
-  elements_through : (element : Ty) (cs : List Shown) → list_all (λ part. part element) (map (suits items) (constants cs)) ≡ true → is_type_in_range element ≡ true → (next : List Symbol) →
-      Through (sym.MoreElements ∷ next) (more (map (λ part. typed_part part element) (map (constant_parts names) (constants cs))))
-      (joined (map (λ part. part_kept part element) (map (constant_kept names) (constants cs)))) (sym.MoreElements ∷ next)
-  elements_through element [] suited range next = nothing (sym.MoreElements ∷ next)
+  elements_through : (element : Ty) (cs : List Shown) → list_all (λ part. part element) (map (suits items) (constants cs)) ≡ true → is_type_in_range element ≡ true → (next : Items) →
+      Through (item.Further the.Element ∷ end_square ∷ next) (more (map (λ part. typed_part part element) (map (constant_parts names) (constants cs))))
+      (joined (map (λ part. part_kept part element) (map (constant_kept names) (constants cs)))) (item.Further the.Element ∷ end_square ∷ next)
+  elements_through element [] suited range next = nothing (item.Further the.Element ∷ end_square ∷ next)
   elements_through element (c ∷ cs) suited range next =
       let both = and_parts (suits items c.0 element) (list_all (λ part. part element) (map (suits items) (constants cs))) suited in
-      drops refl refl refl (spaced (then_on (element_through c element both.0 range next) (elements_through element cs both.1 range next)))
+      drops refl refl refl (spaced (then_on (element_through c element both.0 range (item.Further the.Element ∷ end_square ∷ next)) (elements_through element cs both.1 range next)))
 
-  field_through : (c : Shown) (ty : Ty) → suits items c.0 ty ≡ true → is_type_in_range ty ≡ true → (next : List Symbol) →
-      Through (sym.AnyType ∷ sym.PartValue ∷ next) (typed_part (constant_parts names c.0) ty) (part_kept (constant_kept names c.0) ty) (sym.MoreParts ∷ next)
-  field_through c ty suited range next =
-      then_on (type_through ty range (sym.PartValue ∷ next)) (spaced (begun (omega arith) (part_value_begins next) (c.1 ty suited range (sym.MoreParts ∷ next))))
-
-  fields_through : (cs : List Shown) (tys : List Ty) → each_takes (map (suits items) (constants cs)) tys ≡ true → list_all (λ field. field) (map is_type_in_range tys) ≡ true → (next : List Symbol) →
-      Through (sym.MoreParts ∷ next) (more (typed_fields (map (constant_parts names) (constants cs)) tys)) (joined (fields_kept (map (constant_kept names) (constants cs)) tys)) (sym.MoreParts ∷ next)
-  fields_through [] tys suited range next = nothing (sym.MoreParts ∷ next)
-  fields_through (c ∷ cs) [] suited range next = nothing (sym.MoreParts ∷ next)
+  fields_through : (cs : List Shown) (tys : List Ty) → each_takes (map (suits items) (constants cs)) tys ≡ true → list_all (λ field. field) (map is_type_in_range tys) ≡ true → (next : Items) →
+      Through (item.Further the.Element ∷ end_brace ∷ next) (more (typed_fields (map (constant_parts names) (constants cs)) tys)) (joined (fields_kept (map (constant_kept names) (constants cs)) tys)) (item.Further the.Element ∷ end_brace ∷ next)
+  fields_through [] tys suited range next = nothing (item.Further the.Element ∷ end_brace ∷ next)
+  fields_through (c ∷ cs) [] suited range next = nothing (item.Further the.Element ∷ end_brace ∷ next)
   fields_through (c ∷ cs) (ty ∷ tys) suited range next =
       let both = and_parts (suits items c.0 ty) (each_takes (map (suits items) (constants cs)) tys) suited in
       let ranges = and_parts (is_type_in_range ty) (list_all (λ field. field) (map is_type_in_range tys)) range in
-      drops refl refl refl (spaced (then_on (field_through c ty both.0 ranges.0 next) (fields_through cs tys both.1 ranges.1 next)))
+      drops refl refl refl (spaced (then_on (element_through c ty both.0 ranges.0 (item.Further the.Element ∷ end_brace ∷ next)) (fields_through cs tys both.1 ranges.1 next)))
 
-  many_through : (t : Ty-F Ty) (cs : List Shown) → takes_parts t (map (suits items) (constants cs)) ≡ true → type_in_range (map-Ty Ty Bool is_type_in_range t) ≡ true → (next : List Symbol) →
-      Through (sym.Constant ∷ next) (many_at t (map (constant_parts names) (constants cs))) (many_kept t (map (constant_kept names) (constants cs))) next
+  many_through : (t : Ty-F Ty) (cs : List Shown) → takes_parts t (map (suits items) (constants cs)) ≡ true → type_in_range (map-Ty Ty Bool is_type_in_range t) ≡ true → (next : Items) →
+      Through (item.One the.Constant ∷ next) (many_at t (map (constant_parts names) (constants cs))) (many_kept t (map (constant_kept names) (constants cs))) next
   many_through (Ty-F.One s) cs suited range next = absurd (false≢true suited)
   many_through (Ty-F.Array count element) [] suited range next = keeps refl refl refl (keeps refl refl refl (nothing next))
   many_through (Ty-F.Array count element) (c ∷ cs) suited range next =
@@ -110,7 +93,7 @@ module _ (names : List (List ℕ)) (read : AreRead names) (items : ℕ) where
       let both = and_parts (suits items c.0 element) (list_all (λ part. part element) (map (suits items) (constants cs))) counted.1 in
       let ranges = and_parts (ltb count (2 ^ 64)) (is_type_in_range element) range in
       keeps refl refl refl
-      (then_on (then_on (begun (omega arith) (element_begins next) (element_through c element both.0 ranges.1 next)) (elements_through element cs both.1 ranges.1 next)) (keeps refl refl refl (nothing next)))
+      (then_on (then_on (begun (omega arith) (separated_begins the.Element (end_square ∷ next)) (element_through c element both.0 ranges.1 (item.Further the.Element ∷ end_square ∷ next))) (elements_through element cs both.1 ranges.1 next)) (keeps refl refl refl (nothing next)))
   many_through (Ty-F.Struct []) [] suited range next = keeps refl refl refl (keeps refl refl refl (nothing next))
   many_through (Ty-F.Struct []) (c ∷ cs) suited range next = absurd (false≢true suited)
   many_through (Ty-F.Struct (ty ∷ tys)) [] suited range next = absurd (false≢true suited)
@@ -118,10 +101,10 @@ module _ (names : List (List ℕ)) (read : AreRead names) (items : ℕ) where
       let both = and_parts (suits items c.0 ty) (each_takes (map (suits items) (constants cs)) tys) suited in
       let ranges = and_parts (is_type_in_range ty) (list_all (λ field. field) (map is_type_in_range tys)) range in
       keeps refl refl refl
-      (spaced (then_on (then_on (begun (omega arith) (part_begins next) (field_through c ty both.0 ranges.0 next)) (fields_through cs tys both.1 ranges.1 next)) (spaced (keeps refl refl refl (nothing next)))))
+      (spaced (then_on (then_on (begun (omega arith) (separated_begins the.Element (end_brace ∷ next)) (element_through c ty both.0 ranges.0 (item.Further the.Element ∷ end_brace ∷ next))) (fields_through cs tys both.1 ranges.1 next)) (spaced (keeps refl refl refl (nothing next)))))
 
-  layer_through : (y : Const-F Shown) (ty : Ty) → suits_step items (map-Const Const (Ty → Bool) (suits items) (map-Const Shown Const (λ c. c.0) y)) ty ≡ true → is_type_in_range ty ≡ true → (next : List Symbol) →
-      Through (sym.Constant ∷ next) (constant_step names (map-Const Const (Ty → Parts) (constant_parts names) (map-Const Shown Const (λ c. c.0) y)) ty)
+  layer_through : (y : Const-F Shown) (ty : Ty) → suits_step items (map-Const Const (Ty → Bool) (suits items) (map-Const Shown Const (λ c. c.0) y)) ty ≡ true → is_type_in_range ty ≡ true → (next : Items) →
+      Through (item.One the.Constant ∷ next) (constant_step names (map-Const Const (Ty → Parts) (constant_parts names) (map-Const Shown Const (λ c. c.0) y)) ty)
       (constant_kept_step names (map-Const Const (Ty → Lexemes) (constant_kept names) (map-Const Shown Const (λ c. c.0) y)) ty) next
   layer_through (Const-F.Int n) ty suited range next = number_through (out-Ty ty) n next
   layer_through Const-F.Null ty suited range next = keeps refl refl refl (nothing next)
@@ -138,10 +121,10 @@ module _ (names : List (List ℕ)) (read : AreRead names) (items : ℕ) where
       (ap (λ x. constant_kept_step names (map-Const Const (Ty → Lexemes) (constant_kept names) x) ty) e ∙ sym (ap (λ f. f ty) (kept_at names x)))
       (layer_through y ty (ap (λ x. suits_step items (map-Const Const (Ty → Bool) (suits items) x) ty) e ∙ sym (ap (λ f. f ty) (suits_at items x)) ∙ suited) range next)
 
-  pub constant_through : (c : Const) (ty : Ty) → suits items c ty ≡ true → is_type_in_range ty ≡ true → (next : List Symbol) → Through (sym.Constant ∷ next) (constant_parts names c ty) (constant_kept names c ty) next
+  pub constant_through : (c : Const) (ty : Ty) → suits items c ty ≡ true → is_type_in_range ty ≡ true → (next : Items) → Through (item.One the.Constant ∷ next) (constant_parts names c ty) (constant_kept names c ty) next
   constant_through = ind-Const IsThrough rolled_through
 
-  pub constant_goes : (c : Const) (ty : Ty) (next : List Symbol) → suits items c ty ≡ true → is_type_in_range ty ≡ true → goes (sym.Constant ∷ next) (spellings_of (constant_parts names c ty)) ≡ Some (constant_kept names c ty, next)
+  pub constant_goes : (c : Const) (ty : Ty) (next : Items) → suits items c ty ≡ true → is_type_in_range ty ≡ true → goes (item.One the.Constant ∷ next) (spellings_of (constant_parts names c ty)) ≡ Some (constant_kept names c ty, next)
   constant_goes c ty next suited range = (constant_through c ty suited range next).gone
 
   pub constant_clean : (c : Const) (ty : Ty) → suits items c ty ≡ true → is_type_in_range ty ≡ true → no_records (spellings_of (constant_parts names c ty)) ≡ true

@@ -40,7 +40,7 @@ use Rattle.ir_grammar.specs.declared.shape.Flag.TheVariants as flag
 use Rattle.ir_grammar.specs.declared.shape.Value.TheVariants as val
 use Rattle.ir_grammar.specs.Numbers.{digits_shape}
 use Rattle.ir_grammar.specs.Shapes.{at_shape}
-use Rattle.ir_grammar.specs.Walk.{Kept}
+use Rattle.ir_grammar.specs.Tokens.{Kept}
 use Rattle.ir_writer.specs.Names.{quoted, name_text, name_at}
 use Rattle.ir_writer.specs.Words.{scalar_text, op_text, cast_text, pred_text}
 use Rattle.ir_writer.specs.Constants.{signed_text}

@@ -1,64 +1,80 @@
--- What leaves at a quiet shape.
-use Rattle.std.proofs.Common.{◌≡◌, ◌∙◌, true, false, List, ◌∷◌, refl, ap}
+-- What is left out at a quiet shape.
+use Rattle.std.proofs.Common.{◌≡◌, ◌∙◌, true, ◌∷◌, refl}
 use Rattle.std.proofs.lemmas.Bool.{false≢true}
 use Rattle.ir_grammar.specs.declared.shape.Shape.{Shape}
 use Rattle.ir_grammar.specs.declared.shape.Shape.TheVariants as is
-use Rattle.ir_grammar.specs.declared.symbol.Symbol.{Symbol}
-use Rattle.ir_grammar.specs.declared.symbol.Symbol.TheVariants as sym
-use Rattle.ir_grammar.specs.Turns.{Leaves}
-use Rattle.ir_grammar.specs.Grammar.{turn_at}
-use Rattle.ir_grammar.specs.Walk.{around, by_turn, settle}
-use Rattle.round_trip.proofs.Grammar.Walking.{is_quiet, Quietly}
+use Rattle.ir_grammar.specs.declared.grammar.Item.{Item}
+use Rattle.ir_grammar.specs.declared.grammar.Item.TheVariants as item
+use Rattle.ir_grammar.specs.declared.grammar.Name.TheVariants as the
+use Rattle.ir_grammar.specs.Mirrors.Walk.{settle}
+use Rattle.round_trip.proofs.Grammar.Walking.{Items, is_quiet, Quietly}
 
--- The symbol leaves at a quiet shape, before any others.
-abbrev LeavesQuietly : Symbol → List Symbol → Type 0
-LeavesQuietly symbol others = (at : Shape) → is_quiet at ≡ true → turn_at symbol at (around false others) ≡ Leaves
+-- The item is left out at a quiet shape, before any others.
+abbrev LeftOut : Item → Items → Type 0
+LeftOut first others = (at : Shape) → is_quiet at ≡ true → settle at (first ∷ others) ≡ settle at others
 
-quietly_past : (symbol : Symbol) (others : List Symbol) → LeavesQuietly symbol others → Quietly (symbol ∷ others) others
-quietly_past symbol others leaves at quiet = ap (λ turn. by_turn turn others (settle at false others)) (leaves at quiet)
+attachments_left_out : (others : Items) → LeftOut (item.Many the.CommaAttachment) others
+attachments_left_out others is.Comma quiet = absurd (false≢true quiet)
+attachments_left_out others _ quiet = refl
 
-trailers_leave : (others : List Symbol) → LeavesQuietly sym.Trailers others
-trailers_leave others is.Comma quiet = absurd (false≢true quiet)
-trailers_leave others _ quiet = refl
+alignment_left_out : (others : Items) → LeftOut (item.May the.AlignPart) others
+alignment_left_out others is.Comma quiet = absurd (false≢true quiet)
+alignment_left_out others _ quiet = refl
 
-align_trailers_leave : (others : List Symbol) → LeavesQuietly sym.AlignTrailers others
-align_trailers_leave others is.Comma quiet = absurd (false≢true quiet)
-align_trailers_leave others _ quiet = refl
+alloca_part_left_out : (others : Items) → LeftOut (item.May the.AllocaPart) others
+alloca_part_left_out others is.Comma quiet = absurd (false≢true quiet)
+alloca_part_left_out others _ quiet = refl
 
-alloca_more_leaves : (others : List Symbol) → LeavesQuietly sym.AllocaMore others
-alloca_more_leaves others is.Comma quiet = absurd (false≢true quiet)
-alloca_more_leaves others _ quiet = refl
+indices_left_out : (others : Items) → LeftOut (item.May the.IndexPart) others
+indices_left_out others is.Comma quiet = absurd (false≢true quiet)
+indices_left_out others _ quiet = refl
 
-gep_indices_leave : (others : List Symbol) → LeavesQuietly sym.GepIndices others
-gep_indices_leave others is.Comma quiet = absurd (false≢true quiet)
-gep_indices_leave others _ quiet = refl
+entries_left_out : (others : Items) → LeftOut (item.May the.EntryPart) others
+entries_left_out others is.Comma quiet = absurd (false≢true quiet)
+entries_left_out others _ quiet = refl
 
-more_phi_leaves : (others : List Symbol) → LeavesQuietly sym.MorePhi others
-more_phi_leaves others is.Comma quiet = absurd (false≢true quiet)
-more_phi_leaves others _ quiet = refl
+call_attributes_left_out : (others : Items) → LeftOut (item.Many the.CallAttribute) others
+call_attributes_left_out others (is.Free free) quiet = absurd (false≢true quiet)
+call_attributes_left_out others is.Str quiet = absurd (false≢true quiet)
+call_attributes_left_out others is.Hash quiet = absurd (false≢true quiet)
+call_attributes_left_out others is.Align quiet = absurd (false≢true quiet)
+call_attributes_left_out others _ quiet = refl
 
-call_attributes_leave : (others : List Symbol) → LeavesQuietly sym.CallAttributes others
-call_attributes_leave others (is.Free free) quiet = absurd (false≢true quiet)
-call_attributes_leave others is.Str quiet = absurd (false≢true quiet)
-call_attributes_leave others is.Hash quiet = absurd (false≢true quiet)
-call_attributes_leave others is.Record quiet = absurd (false≢true quiet)
-call_attributes_leave others is.Align quiet = absurd (false≢true quiet)
-call_attributes_leave others _ quiet = refl
+attributes_left_out : (others : Items) → LeftOut (item.Many the.Attribute) others
+attributes_left_out others (is.Free free) quiet = absurd (false≢true quiet)
+attributes_left_out others is.Str quiet = absurd (false≢true quiet)
+attributes_left_out others is.Hash quiet = absurd (false≢true quiet)
+attributes_left_out others is.Record quiet = absurd (false≢true quiet)
+attributes_left_out others is.Align quiet = absurd (false≢true quiet)
+attributes_left_out others _ quiet = refl
 
-pub past_trailers : (others : List Symbol) → Quietly (sym.Trailers ∷ others) others
-past_trailers others = quietly_past sym.Trailers others (trailers_leave others)
+variable_parts_left_out : (others : Items) → LeftOut (item.Many the.VariablePart) others
+variable_parts_left_out others is.Comma quiet = absurd (false≢true quiet)
+variable_parts_left_out others _ quiet = refl
 
-pub past_align_trailers : (others : List Symbol) → Quietly (sym.AlignTrailers ∷ others) others
-past_align_trailers others = quietly_past sym.AlignTrailers others (align_trailers_leave others)
+pub past_attachments : (others : Items) → Quietly (item.Many the.CommaAttachment ∷ others) others
+past_attachments others = record { settles = attachments_left_out others; ends = refl }
 
-pub past_alloca_more : (others : List Symbol) → Quietly (sym.AllocaMore ∷ others) others
-past_alloca_more others = quietly_past sym.AllocaMore others (alloca_more_leaves others)
+pub past_alignment : (others : Items) → Quietly (item.May the.AlignPart ∷ others) others
+past_alignment others = record { settles = alignment_left_out others; ends = refl }
 
-pub past_gep_indices : (others : List Symbol) → Quietly (sym.GepIndices ∷ others) others
-past_gep_indices others = quietly_past sym.GepIndices others (gep_indices_leave others)
+pub past_alloca_part : (others : Items) → Quietly (item.May the.AllocaPart ∷ others) others
+past_alloca_part others = record { settles = alloca_part_left_out others; ends = refl }
 
-pub past_more_phi : (others : List Symbol) → Quietly (sym.MorePhi ∷ others) others
-past_more_phi others = quietly_past sym.MorePhi others (more_phi_leaves others)
+pub past_indices : (others : Items) → Quietly (item.May the.IndexPart ∷ others) others
+past_indices others = record { settles = indices_left_out others; ends = refl }
 
-pub past_call : (others : List Symbol) → Quietly (sym.CallAttributes ∷ sym.Trailers ∷ others) others
-past_call others at quiet = quietly_past sym.CallAttributes (sym.Trailers ∷ others) (call_attributes_leave (sym.Trailers ∷ others)) at quiet ∙ past_trailers others at quiet
+pub past_entries : (others : Items) → Quietly (item.May the.EntryPart ∷ others) others
+past_entries others = record { settles = entries_left_out others; ends = refl }
+
+pub past_call : (others : Items) → Quietly (item.Many the.CallAttribute ∷ item.Many the.CommaAttachment ∷ others) others
+past_call others = record {
+  settles = λ at quiet. call_attributes_left_out (item.Many the.CommaAttachment ∷ others) at quiet ∙ attachments_left_out others at quiet;
+  ends = refl;
+}
+
+pub past_attributes : (others : Items) → Quietly (item.Many the.Attribute ∷ others) others
+past_attributes others = record { settles = attributes_left_out others; ends = refl }
+
+pub past_variable_parts : (others : Items) → Quietly (item.Many the.VariablePart ∷ others) others
+past_variable_parts others = record { settles = variable_parts_left_out others; ends = refl }

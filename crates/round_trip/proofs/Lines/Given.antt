@@ -24,7 +24,8 @@ use Rattle.ir_operands.specs.Operands.{Names}
 use Rattle.ir_calls.specs.Calls.{is_intrinsic_constant, calls_intrinsic}
 use Rattle.ir_writer.specs.Ranges.{is_type_in_range}
 use Rattle.round_trip.proofs.Grammar.Kept.{Lexemes, type_kept, integer_kept}
-use Rattle.round_trip.proofs.Lines.Operands.{is_debug, NoDebug}
+use Rattle.round_trip.proofs.Grammar.Operands.{is_debug}
+use Rattle.round_trip.proofs.Lines.Operands.{NoDebug}
 use Rattle.round_trip.proofs.Lines.Names.{NamesBack, ReadsBack, operand_back, block_back}
 
 -- A name stands where it is found.

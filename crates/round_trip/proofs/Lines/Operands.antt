@@ -17,7 +17,6 @@ use Rattle.ir_syntax.specs.declared.constant.Operand.{Operand}
 use Rattle.ir_syntax.specs.declared.constant.Operand.TheVariants as operand
 use Rattle.ir_syntax.specs.Suits.{suits, suits_step, Suits, takes_parts}
 use Rattle.ir_syntax.specs.FormedBody.{Places, IsOperand}
-use Rattle.ir_grammar.specs.declared.shape.AtName.{AtName}
 use Rattle.ir_grammar.specs.declared.shape.AtName.TheVariants as at
 use Rattle.ir_grammar.specs.declared.shape.Shape.{Shape}
 use Rattle.ir_grammar.specs.declared.shape.Shape.TheVariants as is
@@ -28,6 +27,7 @@ use Rattle.ir_operands.specs.Operands.{Names, inbounds_at}
 use Rattle.ir_operands.specs.Marks.{ext_at}
 use Rattle.ir_calls.specs.Calls.{whole_at, callee_at, void_callee_at}
 use Rattle.ir_writer.specs.Names.{name_at}
+use Rattle.round_trip.proofs.Grammar.Operands.{is_debug}
 use Rattle.round_trip.proofs.Grammar.Kept.{Lexemes, type_kept, type_kept_step, integer_kept, number_kept, address_kept, constant_kept, constant_kept_step, operand_kept}
 
 -- ---- types
@@ -122,10 +122,6 @@ pub constant_first : (names : List (List ℕ)) (items : ℕ) (ty : Scalar) (c : 
 constant_first names items ty c suited = constant_begins names begins_constant (λ place. refl) still_constant items ty c suited
 
 -- ---- operands
-
-abbrev pub is_debug : AtName → Bool
-is_debug at.Debug = true
-is_debug _ = false
 
 -- No name is that of debug information.
 abbrev pub NoDebug : List (List ℕ) → Type 0

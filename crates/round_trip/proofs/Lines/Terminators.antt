@@ -14,7 +14,7 @@ use Rattle.ir_syntax.specs.Suits.{is_number_of}
 use Rattle.ir_syntax.specs.FormedBody.{Places, IsOperand, FormedPhi, FormedTerm}
 use Rattle.ir_grammar.specs.declared.shape.Shape.TheVariants as is
 use Rattle.ir_grammar.specs.declared.shape.Value.TheVariants as val
-use Rattle.ir_grammar.specs.Walk.{Kept}
+use Rattle.ir_grammar.specs.Tokens.{Kept}
 use Rattle.ir_scope.specs.Runs.{behind, begins_with, runs}
 use Rattle.ir_constants.specs.Constants.{is_close_square}
 use Rattle.ir_operands.specs.Operands.{Names, operand_at, block_at, then_at}

@@ -7,12 +7,13 @@ use Rattle.std.proofs.lemmas.List.Elements.{All-nil, All-cons}
 use Rattle.ir_types.specs.declared.scalar.Scalar.{Scalar}
 use Rattle.ir_types.specs.declared.scalar.Scalar.TheVariants.{I1, I8, I16, I32, I64, Ptr}
 use Rattle.ir_types.specs.declared.scalar.FnType.{FnType}
+use Rattle.ir_types.specs.Scalars.{same}
 use Rattle.ir_syntax.specs.declared.body.Arg.{Arg}
 use Rattle.ir_scope.specs.Runs.{Reading, begins_with, runs}
 use Rattle.ir_constants.specs.Constants.{is_close_paren}
 use Rattle.ir_operands.specs.Marks.{is_scalar, scalar_at, dots_at}
 use Rattle.ir_calls.specs.Calls.{types_at, whole_at, call_type}
-use Rattle.ir_writer.specs.Instructions.{same, same_types, is_whole}
+use Rattle.ir_writer.specs.Instructions.{same_types, is_whole}
 use Rattle.round_trip.proofs.Grammar.Kept.{Lexemes, joined, scalar_kept, dots_kept, close_paren_kept, whole_kept}
 use Rattle.round_trip.proofs.Constants.Runs.{IsReadBack, runs_back}
 use Rattle.round_trip.proofs.Lines.Words.{one_more, joined_back, ended_back}

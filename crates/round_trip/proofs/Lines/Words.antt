@@ -4,7 +4,7 @@ use Rattle.std.proofs.Math.Seq.{drop-append_seam}
 use Rattle.std.proofs.lemmas.Bool.{cond-true}
 use Rattle.ir_types.specs.declared.scalar.Scalar.{Scalar}
 use Rattle.ir_grammar.specs.declared.shape.Shape.{Shape}
-use Rattle.ir_grammar.specs.Walk.{Kept}
+use Rattle.ir_grammar.specs.Tokens.{Kept}
 use Rattle.ir_scope.specs.Runs.{Reading, behind, begins_with, closed_by}
 use Rattle.ir_operands.specs.Operands.{then_at, typed}
 use Rattle.round_trip.proofs.Grammar.Kept.{Lexemes, scalar_kept}

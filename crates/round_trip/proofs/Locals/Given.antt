@@ -20,7 +20,7 @@ use Rattle.ir_grammar.specs.declared.shape.Shape.TheVariants as is
 use Rattle.ir_grammar.specs.declared.shape.Free.TheVariants as free
 use Rattle.ir_grammar.specs.declared.shape.Flag.{Flag}
 use Rattle.ir_grammar.specs.declared.shape.Flag.TheVariants as flag
-use Rattle.ir_grammar.specs.Walk.{Kept}
+use Rattle.ir_grammar.specs.Tokens.{Kept}
 use Rattle.ir_locals.specs.Locals.{has_result, results_from, label_names}
 use Rattle.ir_writer.specs.Words.{op_text, cast_text, pred_text}
 use Rattle.ir_writer.specs.Instructions.{is_whole}

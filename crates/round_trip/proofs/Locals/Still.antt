@@ -17,7 +17,7 @@ use Rattle.ir_syntax.specs.declared.constant.Operand.TheVariants as operand
 use Rattle.ir_grammar.specs.declared.shape.Shape.{Shape}
 use Rattle.ir_grammar.specs.declared.shape.Shape.TheVariants as is
 use Rattle.ir_grammar.specs.declared.shape.Value.TheVariants as val
-use Rattle.ir_grammar.specs.Walk.{Kept}
+use Rattle.ir_grammar.specs.Tokens.{Kept}
 use Rattle.ir_locals.specs.Locals.{has_result, result_name, results_from, is_label, label_name, label_names}
 use Rattle.round_trip.proofs.Grammar.Kept.{Lexemes, joined, close_square_kept, close_brace_kept, type_kept_step, type_kept, integer_kept, address_kept, number_kept, part_kept, fields_kept, many_kept, constant_kept_step, constant_kept, operand_kept, typed_kept, pair_kept}
 

@@ -9,7 +9,7 @@ use Rattle.ir_syntax.specs.declared.body.Inst.{Inst}
 use Rattle.ir_syntax.specs.declared.body.Block.{Block}
 use Rattle.ir_syntax.specs.declared.body.Body.{Body}
 use Rattle.ir_syntax.specs.Results.{result_type, block_results, results}
-use Rattle.ir_grammar.specs.Walk.{Kept}
+use Rattle.ir_grammar.specs.Tokens.{Kept}
 use Rattle.ir_locals.specs.declared.local.Local.TheVariants.{Param, Reg, Block as OfBlock}
 use Rattle.ir_locals.specs.Locals.{results_from, result_names, label_name, label_names, block_names, local_name, numbered, named, locals_of}
 use Rattle.ir_writer.specs.Instructions.{result_text}

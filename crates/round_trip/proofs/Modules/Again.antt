@@ -11,6 +11,7 @@ use Rattle.ir_types.specs.declared.shape.Ty.TheBlock.{One}
 use Rattle.ir_types.specs.declared.shape.Ty.TheOpen.{Ty-F}
 use Rattle.ir_types.specs.declared.shape.Ty.TheFolds.{fold-roll-Ty}
 use Rattle.ir_types.specs.declared.shape.Ty.TheVariants.{rolls-One}
+use Rattle.ir_types.specs.Names.{IsName}
 use Rattle.ir_types.proofs.Nestings.{nesting-One, nodes-One}
 use Rattle.ir_syntax.specs.Suits.{IsType, Suits}
 use Rattle.ir_constants.specs.Constants.{constant_at}
@@ -21,6 +22,7 @@ use Rattle.ir_syntax.specs.declared.body.Body.{Body}
 use Rattle.ir_syntax.specs.declared.body.Phi.{Phi}
 use Rattle.ir_syntax.specs.declared.body.Inst.{Inst}
 use Rattle.ir_syntax.specs.declared.item.Item.{Item}
+use Rattle.ir_syntax.specs.declared.item.Item.TheVariants as item
 use Rattle.ir_syntax.specs.declared.item.Module.{Module}
 use Rattle.ir_syntax.specs.Formed.{Formed}
 use Rattle.ir_syntax.specs.FormedItem.{FormedItem}
@@ -30,7 +32,7 @@ use Rattle.ir_grammar.specs.declared.shape.AtName.{AtName}
 use Rattle.ir_grammar.specs.declared.shape.AtName.TheVariants as at
 use Rattle.ir_grammar.specs.declared.shape.Shape.TheVariants as is
 use Rattle.ir_grammar.specs.Shapes.{at_shape}
-use Rattle.ir_grammar.specs.Walk.{Kept}
+use Rattle.ir_grammar.specs.Tokens.{Kept}
 use Rattle.ir_scope.specs.Runs.{begins_with}
 use Rattle.ir_scope.specs.Scopes.{Env}
 use Rattle.ir_operands.specs.Operands.{Names}
@@ -46,7 +48,7 @@ use Rattle.round_trip.proofs.Locals.Found.{param_found, result_found, block_foun
 use Rattle.round_trip.proofs.Bodies.Lines.{opens_line, PhiBack, InstBack, BlockBack}
 use Rattle.round_trip.proofs.Bodies.Bodies.{few_results, names_of_written, body_back}
 use Rattle.round_trip.proofs.Lines.Aligns.{begins_quietly}
-use Rattle.round_trip.proofs.Lines.Operands.{is_debug}
+use Rattle.round_trip.proofs.Grammar.Operands.{is_debug}
 use Rattle.round_trip.proofs.Lines.Names.{NamesBack, ReadsBack}
 use Rattle.round_trip.proofs.Lines.Given.{reads_back}
 use Rattle.round_trip.proofs.Lines.Lines.{inst_back, plain_inst_back, phi_back, term_back}
@@ -63,6 +65,13 @@ each_of P Q f xs h = λ k d lt. f (get_or xs k d) (h k d lt)
 
 pub are_bytes : (m : Module) → InRange m → All AreBytes (item_names m)
 are_bytes m range = All-map AreBytes item_name m.items (each_of ItemInRange (λ i. AreBytes (item_name i)) item-bytes m.items range.items)
+
+named_item : (items : List Item) (i : Item) → FormedItem items i → IsName (item_name i)
+named_item items (item.Var var) h = h.has_name
+named_item items (item.Func func) h = h.has_name
+
+are_named : (m : Module) → Formed m → All IsName (item_names m)
+are_named m formed = All-map IsName item_name m.items (each_of (FormedItem m.items) (λ i. IsName (item_name i)) (named_item m.items) m.items formed.has_items)
 
 by_name : (found : AtName) → found ≢ at.Debug → is_debug found ≡ false
 by_name at.Debug other = absurd (other refl)
@@ -86,7 +95,7 @@ types_again env = λ ty fits range rest. type_back env.types ty rest fits range
 constants_again : (env : Env) (m : Module) → env.symbols ≡ item_names m → Formed m → InRange m → ConstantsBack env (item_names m) m.items
 constants_again env m same formed range = λ ty c suits fits ranged has rest.
     subst (λ names. constant_at_names names ty c rest) same
-    (constant_back env c ty rest (subst (AllPairs (λ a b. a ≢ b)) (sym same) formed.distinct) (subst (All AreBytes) (sym same) (are_bytes m range))
+    (constant_back env c ty rest (subst (AllPairs (λ a b. a ≢ b)) (sym same) formed.distinct) (subst (All IsName) (sym same) (are_named m formed)) (subst (All AreBytes) (sym same) (are_bytes m range))
     (subst (λ n. Suits n ty c) (sym (ap length same ∙ length-map m.items item_name)) suits) fits ranged has)
   where
     constant_at_names : List (List ℕ) → Ty → Const → List Kept → Type 0

@@ -12,11 +12,11 @@ use Rattle.ir_syntax.specs.FormedBody.{item_name}
 use Rattle.ir_syntax.specs.Formed.{Formed}
 use Rattle.ir_grammar.specs.declared.shape.Shape.TheVariants as is
 use Rattle.ir_grammar.specs.declared.shape.Free.TheVariants as free
-use Rattle.ir_grammar.specs.Walk.{Kept}
+use Rattle.ir_grammar.specs.Tokens.{Kept}
 use Rattle.name_table.specs.Places.{place_among}
 use Rattle.ir_scope.specs.Scopes.{Env, is_at}
 use Rattle.type_names.specs.TypeNames.{Named, named_types}
-use Rattle.ir_parser.specs.Items.{item_name_of, item_of}
+use Rattle.ir_parser.specs.Items.{item_name_of, dropped_name_of, item_of}
 use Rattle.ir_parser.specs.Modules.{symbols_of, env_of, string_of, layout_from, triple_from, past, past_item, item_then, first_item, kind_from, items_with, items_from, with_targets, module_of}
 use Rattle.ir_writer.specs.Names.{quoted}
 use Rattle.ir_writer.specs.Modules.{item_names}
@@ -122,8 +122,8 @@ items-found env types names (i ∷ rest) n place h =
     let more : AreFound env names (suc place) rest = λ k d less.
     let there : place + suc k ≡ suc place + k = omega arith in
     subst (λ p. IsFound env names p (get_or rest k d)) there (h (suc k) d (omega (arith, less))) in
-    ap (λ t. items_with env types others n place e (kind_from t (item_name_of e))) (item-no-type names i)
-    ∙ ap (λ o. items_with env types others n place e (kind_from None o)) own.named
+    ap (λ t. items_with env types others n place e (kind_from t (item_name_of e) (dropped_name_of e))) (item-no-type names i)
+    ∙ ap (λ o. items_with env types others n place e (kind_from None o (dropped_name_of e))) own.named
     ∙ ap (λ o. item_then o (others n (suc place))) own.first
     ∙ ap (past_item i) (items-found env types names rest n (suc place) more)
 

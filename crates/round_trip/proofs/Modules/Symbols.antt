@@ -16,7 +16,7 @@ use Rattle.ir_grammar.specs.declared.shape.Shape.TheVariants as is
 use Rattle.ir_grammar.specs.declared.shape.AtName.{AtName}
 use Rattle.ir_grammar.specs.declared.shape.AtName.TheVariants as at
 use Rattle.ir_grammar.specs.Shapes.{at_shape}
-use Rattle.ir_grammar.specs.Walk.{Kept}
+use Rattle.ir_grammar.specs.Tokens.{Kept}
 use Rattle.type_names.specs.TypeNames.{named_type}
 use Rattle.ir_parser.specs.Items.{first_symbol, item_name_of}
 use Rattle.ir_parser.specs.Modules.{layout_from, triple_from}

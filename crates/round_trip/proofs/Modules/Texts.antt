@@ -1,13 +1,11 @@
--- The canonical text of a module spells it, and two modules with one text are one.
+-- The canonical text of a module spells it.
 use Rattle.std.proofs.Common.{◌≡◌, ◌∙◌, List, [], ap, sym, subst, Ok}
 use Rattle.ir_lexer.specs.Written.{spellings_of, IsReadable}
-use Rattle.ir_lexer.proofs.Tilings.{tokens_once}
 use Rattle.ir_lexer.proofs.Written.{written}
 use Rattle.ir_syntax.specs.declared.item.Module.{Module}
-use Rattle.ir_grammar.specs.Walk.{Piece}
+use Rattle.ir_grammar.specs.Tokens.{Piece}
 use Rattle.ir_parser.specs.Modules.{module_of}
 use Rattle.ir_parser.specs.Spelled.{Splits, Spells}
-use Rattle.ir_parser.proofs.OneModule.{one-module}
 use Rattle.ir_writer.specs.Modules.{module_parts, module_text}
 use Rattle.round_trip.proofs.Grammar.Kept.{module_kept}
 use Rattle.round_trip.proofs.Entities.Split.{module_entities, module_entities_kept}
@@ -23,6 +21,3 @@ text_spells m readable split resolved =
       split = subst (λ (ps : List Piece). Splits ps (module_entities m) []) (sym read.2) split;
       resolved = ap module_of (module_entities_kept m) ∙ resolved;
     }
-
-pub modules_of_one_text : (m n : Module) → Spells (module_text m) m → Spells (module_text n) n → module_text m ≡ module_text n → m ≡ n
-modules_of_one_text m n a b e = one-module tokens_once (module_text m) m n a (subst (λ text. Spells text n) (sym e) b)

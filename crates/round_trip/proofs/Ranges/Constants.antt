@@ -1,15 +1,18 @@
 -- Constants and operands that are read of bytes are in range.
-use Rattle.std.proofs.Common.{◌≡◌, ◌∙◌, ℕ, zero, suc, pos, negsuc, ◌+◌, ◌-◌, ◌^◌, ◌<◌, ◌≤◌, Bool, true, false, not, cond, ◌&&◌, nat_eq, nat_lt, List, [], ◌∷◌, length, drop, Option, Some, None, option_map, option_and_then, refl, ap, sym, arith}
+use Rattle.std.proofs.Common.{◌≡◌, ◌∙◌, ℕ, zero, suc, pos, negsuc, ◌-ℤ◌, ◌+◌, ◌-◌, ◌%◌, ◌^◌, ◌<◌, ◌≤◌, Bool, true, false, not, cond, ◌&&◌, nat_eq, nat_lt, List, [], ◌∷◌, length, drop, Option, Some, None, option_map, option_and_then, refl, ap, sym, arith}
 use Rattle.std.specs.Prelude.{All, IfSome, IsTrue}
 use Rattle.std.proofs.lemmas.Bool.{lt-ltb, ltb-false}
+use Rattle.std.proofs.lemmas.Int.{ints}
 use Rattle.std.proofs.lemmas.List.Elements.{All-nil, All-cons, All-weaker}
 use Rattle.std.proofs.lemmas.List.Folds.{list_all-map}
 use Rattle.std.proofs.lemmas.List.Sums.{list_all-from_AllPass}
 use Rattle.ir_lexer.specs.Texts.{name_of, inside}
 use Rattle.ir_types.specs.declared.scalar.Scalar.{Scalar}
+use Rattle.ir_types.specs.declared.scalar.Scalar.TheVariants.{I64}
 use Rattle.ir_types.specs.declared.shape.Ty.{Ty, out-Ty}
 use Rattle.ir_types.specs.declared.shape.Ty.TheOpen.{Ty-F}
 use Rattle.ir_types.specs.declared.shape.Ty.TheBlock.{One}
+use Rattle.ir_types.specs.Scalars.{signed_value}
 use Rattle.ir_syntax.specs.declared.constant.Const.{Const}
 use Rattle.ir_syntax.specs.declared.constant.Const.TheOpen.{Const-F}
 use Rattle.ir_syntax.specs.declared.constant.Const.TheBlock as const
@@ -19,17 +22,15 @@ use Rattle.ir_syntax.specs.declared.constant.Const.TheFolds.{fold-roll-Const}
 use Rattle.ir_syntax.specs.declared.constant.Operand.{Operand}
 use Rattle.ir_syntax.specs.declared.constant.Operand.TheVariants as operand
 use Rattle.ir_syntax.specs.Suits.{is_byte, is_pointer}
-use Rattle.name_table.specs.Places.{place_among}
 use Rattle.ir_grammar.specs.declared.shape.Shape.{Shape}
 use Rattle.ir_grammar.specs.declared.shape.Shape.TheVariants as is
 use Rattle.ir_grammar.specs.declared.shape.Value.TheVariants as val
-use Rattle.ir_grammar.specs.Walk.{Kept}
+use Rattle.ir_grammar.specs.Tokens.{Kept}
 use Rattle.ir_scope.specs.Runs.{Reading, run}
 use Rattle.ir_scope.specs.Integers.{number}
 use Rattle.ir_scope.specs.Scopes.{Env}
 use Rattle.ir_scope.specs.Types.{written_type, same_type, is_close_brace}
-use Rattle.ir_constants.specs.Offsets.{signed}
-use Rattle.ir_constants.specs.Constants.{is_close_square, address_at, zero_of, scalar_of, text_bytes, array_of, struct_of, single, is_pointer_type, part_at, parts_at, elements_at, fields_at, address_of, constant_within, constant_at}
+use Rattle.ir_constants.specs.Constants.{symbol_at, is_close_square, address_at, zero_of, scalar_of, text_bytes, array_of, struct_of, single, is_pointer_type, part_at, parts_at, elements_at, fields_at, address_of, constant_within, constant_at}
 use Rattle.ir_locals.specs.declared.local.Local.{Local}
 use Rattle.ir_locals.specs.declared.local.Local.TheVariants.{Param, Reg, Block}
 use Rattle.ir_locals.specs.Locals.{local_name, local_among, operand_in}
@@ -80,12 +81,15 @@ unfolding is_constant_in_range
 zero_in = ap is_constant_in_range (sym rolls-Zero) ∙ fold-roll-Const Bool constant_in_range Const-F.Zero
 
 -- Each signed number is one of 64 bits.
-offset_in : (n : ℕ) → is_offset (signed n) ≡ true
-offset_in n = cases (nat_lt n (2 ^ 63)) refl
+offset_in : (n : ℕ) → is_offset (signed_value I64 n) ≡ true
+offset_in n = cases (nat_lt (n % 2 ^ 64) (2 ^ 63)) refl
   where
-    cases : (b : Bool) → nat_lt n (2 ^ 63) ≡ b → is_offset (cond b (pos n) (negsuc (2 ^ 64 - n - 1))) ≡ true
+    cases : (b : Bool) → nat_lt (n % 2 ^ 64) (2 ^ 63) ≡ b → is_offset (cond b (pos (n % 2 ^ 64)) (pos (n % 2 ^ 64) -ℤ pos (2 ^ 64))) ≡ true
     cases true e = e
-    cases false e = let most : 2 ^ 63 ≤ n = ltb-false n (2 ^ 63) e in lt-ltb (2 ^ 64 - n - 1) (2 ^ 63) (omega (arith, most))
+    cases false e =
+        let most : 2 ^ 63 ≤ n % 2 ^ 64 = ltb-false (n % 2 ^ 64) (2 ^ 63) e in
+        let below : pos (n % 2 ^ 64) -ℤ pos (2 ^ 64) ≡ negsuc (2 ^ 64 - n % 2 ^ 64 - 1) = omega (arith, ints) in
+        ap is_offset below ∙ lt-ltb (2 ^ 64 - n % 2 ^ 64 - 1) (2 ^ 63) (omega (arith, most))
 
 text_in : (bytes : List ℕ) → AreBytes bytes → IsConstantIn (const.Text bytes)
 text_in bytes all =
@@ -116,8 +120,8 @@ module _ (env : Env) where
   scalar_in s (is.Value val.Null, text) = found_where (is_pointer s) (Some const.Null) null_in
   scalar_in s (is.Value val.Zero, text) = zero_of_in s
   scalar_in s (is.At kind, text) =
-      found_where (is_pointer s) (option_map (λ place. const.Addr place (pos 0)) (place_among (name_of (drop 1 text)) env.symbols))
-      (found_made (λ place. const.Addr place (pos 0)) (place_among (name_of (drop 1 text)) env.symbols) (λ place. in_range-Addr place (pos 0)))
+      found_where (is_pointer s) (option_map (λ place. const.Addr place (pos 0)) (symbol_at env.symbols (name_of (drop 1 text))))
+      (found_made (λ place. const.Addr place (pos 0)) (symbol_at env.symbols (name_of (drop 1 text))) (λ place. in_range-Addr place (pos 0)))
   scalar_in s (shape, text) = found_made (λ n. const.Int n) (number s (shape, text)) int_in
 
   array_in : (count : ℕ) (element : Ty) (k : Kept) → IsOfBytes k → IfSome (array_of count element k) IsConstantIn
@@ -142,7 +146,7 @@ module _ (env : Env) where
   address_in : (t : Ty-F Ty) (ks : List Kept) → IsRead IsConstantIn (address_of env t ks)
   address_in t ks =
       read-where IsConstantIn (is_pointer_type t) _
-      (λ e. read-map Any IsConstantIn _ (address_at env 64 ks) (read-any _) (λ f any. in_range-Addr f.0.0 (signed f.0.1) ∙ offset_in f.0.1))
+      (λ e. read-map Any IsConstantIn _ (address_at env 64 ks) (read-any _) (λ f any. in_range-Addr f.0.0 (signed_value I64 f.0.1) ∙ offset_in f.0.1))
 
   -- ---- parts
 

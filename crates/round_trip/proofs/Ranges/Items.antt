@@ -16,7 +16,7 @@ use Rattle.ir_syntax.specs.declared.body.Body.{Body}
 use Rattle.ir_syntax.specs.FormedBody.{is_intrinsic}
 use Rattle.ir_syntax.specs.FormedItem.{is_reserved}
 use Rattle.ir_grammar.specs.declared.shape.Shape.TheVariants as is
-use Rattle.ir_grammar.specs.Walk.{Kept}
+use Rattle.ir_grammar.specs.Tokens.{Kept}
 use Rattle.ir_scope.specs.Scopes.{Env}
 use Rattle.ir_scope.specs.Types.{written_type}
 use Rattle.ir_constants.specs.Constants.{constant_at}

@@ -11,6 +11,8 @@ use Rattle.ir_types.specs.declared.scalar.BinOp.{BinOp}
 use Rattle.ir_types.specs.declared.scalar.CastOp.{CastOp}
 use Rattle.ir_types.specs.declared.scalar.FnType.{FnType}
 use Rattle.ir_types.specs.declared.shape.Ty.{Ty}
+use Rattle.ir_types.specs.Names.{is_name}
+use Rattle.ir_lexer.specs.Texts.{name_of}
 use Rattle.ir_syntax.specs.declared.constant.Operand.{Operand}
 use Rattle.ir_syntax.specs.declared.body.Arg.{Arg}
 use Rattle.ir_syntax.specs.declared.body.Inst.{Inst}
@@ -23,14 +25,14 @@ use Rattle.ir_grammar.specs.declared.shape.Shape.{Shape}
 use Rattle.ir_grammar.specs.declared.shape.Shape.TheVariants as is
 use Rattle.ir_grammar.specs.declared.shape.Free.TheVariants as free
 use Rattle.ir_grammar.specs.declared.shape.AtName.TheVariants as at
-use Rattle.ir_grammar.specs.Walk.{Kept}
+use Rattle.ir_grammar.specs.Tokens.{Kept}
 use Rattle.ir_scope.specs.Runs.{Reading, behind, runs}
 use Rattle.ir_scope.specs.Integers.{number}
 use Rattle.ir_scope.specs.Types.{written_type}
 use Rattle.ir_constants.specs.Constants.{is_close_paren}
 use Rattle.ir_operands.specs.Operands.{Names, operand_at, block_at, then_at, typed, pair_at, flags_at, allows, nneg_at, allows_nneg, inbounds_at, align_at, aligned}
 use Rattle.ir_operands.specs.Marks.{ext_at, scalar_at}
-use Rattle.ir_calls.specs.Calls.{whole_at, arg_at, args_at, is_call, call_type, made_call, callee_at, void_callee_at, returning_at, call_at}
+use Rattle.ir_calls.specs.Calls.{whole_at, arg_at, args_at, is_call, call_type, made_call, callee_at, dropped_callee_at, void_callee_at, returning_at, call_at}
 use Rattle.ir_insts.specs.Insts.{bin_at, icmp_at, select_at, cast_at, count_at, made_alloca, alloca_at, made_load, load_at, made_store, store_at, is_integer, made_gep, gep_at}
 use Rattle.ir_terms.specs.Terms.{is_open_square, entry_at, made_phi, phi_at, ret_at, made_branch, br_at, cases_at, made_switch, switch_at}
 use Rattle.ir_body.specs.Lines.{Line, Labelled, OfPhi, OfInst, Dropped, Ends, dropped_or, inst_line, term_line, verb_at, line_at}
@@ -226,9 +228,16 @@ module _ (names : Names) (looks : AreTypesIn names.env.types) where
   kept-in None h = tt
   kept-in (Some f) h = h
 
+  dropped-in : (text : List ℕ) → IsRead IsCallIn (dropped_callee_at text)
+  dropped-in text = cases (is_name (name_of (drop 1 text)))
+    where
+      cases : (b : Bool) → IsRead IsCallIn (cond b (Some (None, 1)) None)
+      cases true = tt
+      cases false = tt
+
   void-in : (ext : Ext) (whole : Option (List Scalar × Bool)) → Finds IsCallIn (void_callee_at names ext whole)
   void-in ext whole [] are = kept-in (callee_at names ext None whole []) (callee-in ext None whole [] are)
-  void-in ext whole ((is.At at.Debug, text) ∷ ks) are = tt
+  void-in ext whole ((is.At at.Debug, text) ∷ ks) are = dropped-in text
   void-in ext whole (k ∷ ks) are = kept-in (callee_at names ext None whole (k ∷ ks)) (callee-in ext None whole (k ∷ ks) are)
 
   -- what follows the whole type, wherever one is read

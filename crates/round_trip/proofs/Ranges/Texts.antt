@@ -4,7 +4,7 @@ use Rattle.std.specs.Prelude.{All, slice_index_or}
 use Rattle.std.proofs.lemmas.List.Elements.{All-cons, All-head, All-tail, All-drop, All-map}
 use Rattle.ir_lexer.specs.declared.token.Token.{Token}
 use Rattle.ir_lexer.specs.Tokens.{text_of, texts_of}
-use Rattle.ir_grammar.specs.Walk.{Piece, Kept}
+use Rattle.ir_grammar.specs.Tokens.{Piece, Kept}
 use Rattle.ir_writer.specs.Ranges.{AreBytes}
 use Rattle.round_trip.proofs.Ranges.Escapes.{taken_bytes, dropped_bytes}
 

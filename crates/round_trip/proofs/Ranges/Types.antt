@@ -1,5 +1,5 @@
 -- Types that are read have counts below 2^64.
-use Rattle.std.proofs.Common.{◌∙◌, ℕ, zero, suc, ◌^◌, Bool, nat_lt, List, [], ◌∷◌, length, drop, Option, Some, None, option_map, option_and_then, ap, sym}
+use Rattle.std.proofs.Common.{◌∙◌, ℕ, zero, suc, ◌^◌, Bool, true, false, cond, nat_lt, List, [], ◌∷◌, length, drop, Option, Some, None, option_map, option_and_then, ap, sym}
 use Rattle.std.specs.Prelude.{All, IfSome, IsTrue}
 use Rattle.std.proofs.lemmas.Bool.{and_from}
 use Rattle.std.proofs.lemmas.List.Folds.{list_all-map}
@@ -11,10 +11,11 @@ use Rattle.ir_types.specs.declared.shape.Ty.TheBlock.{One}
 use Rattle.ir_types.specs.declared.shape.Ty.TheOpen.{Ty-F}
 use Rattle.ir_types.specs.declared.shape.Ty.TheVariants.{rolls-One}
 use Rattle.ir_types.specs.declared.shape.Ty.TheFolds.{fold-roll-Ty}
+use Rattle.ir_types.specs.Names.{is_name}
 use Rattle.ir_grammar.specs.declared.shape.Shape.TheVariants as is
 use Rattle.ir_grammar.specs.Numbers.{number_of}
-use Rattle.ir_grammar.specs.Walk.{Kept}
-use Rattle.ir_scope.specs.Types.{fits, fitting, is_close_brace, begins_field, type_at, written_type}
+use Rattle.ir_grammar.specs.Tokens.{Kept}
+use Rattle.ir_scope.specs.Types.{fits, fitting, is_close_brace, begins_field, type_named, type_at, written_type}
 use Rattle.type_names.specs.TypeNames.{Named, written_for, stands_in, stands_for}
 use Rattle.ir_operands.proofs.FormingReadings.{IsRead, read-behind, read-map, read-next, read-where, read-run, read-closed}
 use Rattle.ir_writer.specs.Ranges.{type_in_range, is_type_in_range}
@@ -42,10 +43,17 @@ fitting_in : (found : Option (Ty × ℕ)) → IsRead IsTypeIn found → IsRead I
 fitting_in found h = read-next IsTypeIn IsTypeIn _ found h (λ f p. read-where IsTypeIn (fits f.0) (Some f) (λ e. p))
 
 module _ (look : List ℕ → Option Ty) (looks : AreTypesIn look) where
+  used_in : (name : List ℕ) → IfSome (type_named look name) IsTypeIn
+  used_in name = kept (is_name name)
+    where
+      kept : (b : Bool) → IfSome (cond b (look name) None) IsTypeIn
+      kept true = looks name
+      kept false = tt
+
   type_read : (depth : ℕ) (ks : List Kept) → IsRead IsTypeIn (type_at look depth ks)
   type_read depth [] = tt
   type_read depth ((is.Scalar s, text) ∷ ks) = scalar_in s
-  type_read depth ((is.Local, text) ∷ ks) = fitting_in _ (made_in IsTypeIn IsTypeIn (λ ty. (ty, 1)) (look (name_of (drop 1 text))) (looks (name_of (drop 1 text))) (λ ty p. p))
+  type_read depth ((is.Local, text) ∷ ks) = fitting_in _ (made_in IsTypeIn IsTypeIn (λ ty. (ty, 1)) (type_named look (name_of (drop 1 text))) (used_in (name_of (drop 1 text))) (λ ty p. p))
   type_read (suc depth) ((is.OpenSquare, text) ∷ (is.Int digits, count) ∷ ks) =
       read-where IsTypeIn (nat_lt (number_of count) (2 ^ 64)) _
       (λ less. fitting_in _ (read-behind IsTypeIn 2 _ (read-map IsTypeIn IsTypeIn _ (type_at look depth ks) (type_read depth ks)

@@ -8,7 +8,7 @@ use Rattle.ir_syntax.specs.declared.item.Item.{Item}
 use Rattle.ir_syntax.specs.declared.item.Module.{Module}
 use Rattle.ir_grammar.specs.declared.shape.Shape.TheVariants as is
 use Rattle.ir_grammar.specs.declared.shape.Free.TheVariants as free
-use Rattle.ir_grammar.specs.Walk.{Kept}
+use Rattle.ir_grammar.specs.Tokens.{Kept}
 use Rattle.type_names.specs.TypeNames.{named_types}
 use Rattle.ir_parser.specs.Modules.{env_of, string_of, layout_from, triple_from, items_from, with_targets, module_of}
 use Rattle.ir_parser.specs.Spelled.{Spells, kept_of}
