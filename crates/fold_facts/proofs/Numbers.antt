@@ -21,7 +21,7 @@ pub first_zero : (blocks : List Block) → first_result blocks 0 ≡ 0
 first_zero [] = refl
 first_zero (b ∷ bs) = refl
 
-first_cons : (b : Block) (bs : List Block) (k : ℕ) → first_result (b ∷ bs) (suc k) ≡ length (block_results b) + first_result bs k
+pub first_cons : (b : Block) (bs : List Block) (k : ℕ) → first_result (b ∷ bs) (suc k) ≡ length (block_results b) + first_result bs k
 first_cons b bs k = sum_by-cons (λ n. n) (length (block_results b)) (map (λ block. length (block_results block)) (take k bs))
 
 -- a result of a block, among those of the body

@@ -69,10 +69,10 @@ raises_three setting blocks a b c d one other third first all is are h g k =
 
 -- ---- facts
 
-fact_at_some : (fs : List Fact) (k : ℕ) (f : Fact) → slice_get fs k ≡ Some f → fact_of fs k ≡ f
+pub fact_at_some : (fs : List Fact) (k : ℕ) (f : Fact) → slice_get fs k ≡ Some f → fact_of fs k ≡ f
 fact_at_some fs k f h = ap fact_at h
 
-room_falls : (x y : Fact) → (IsBelow y x → ⊥) → fact_room (join x y) < fact_room x
+pub room_falls : (x y : Fact) → (IsBelow y x → ⊥) → fact_room (join x y) < fact_room x
 room_falls Unreached Unreached h = absurd (h tt)
 room_falls Unreached (One w) h = omega arith
 room_falls Unreached Varying h = omega arith
@@ -92,10 +92,10 @@ room_falls Varying y h = absurd (h (top y))
     top Varying = tt
 
 -- a fact of the list that has it raised
-raised_same : (fs : List Fact) (k : ℕ) (x said : Fact) → slice_get fs k ≡ Some x → fact_of (set fs k (join (fact_of fs k) said)) k ≡ join (fact_of fs k) said
+pub raised_same : (fs : List Fact) (k : ℕ) (x said : Fact) → slice_get fs k ≡ Some x → fact_of (set fs k (join (fact_of fs k) said)) k ≡ join (fact_of fs k) said
 raised_same fs k x said h = fact_at_some (set fs k (join (fact_of fs k) said)) k (join (fact_of fs k) said) (set_same fs k (join (fact_of fs k) said) (within fs k x h))
 
-raised_other : (fs : List Fact) (k j : ℕ) (y : Fact) → j ≢ k → fact_of (set fs k y) j ≡ fact_of fs j
+pub raised_other : (fs : List Fact) (k j : ℕ) (y : Fact) → j ≢ k → fact_of (set fs k y) j ≡ fact_of fs j
 raised_other fs k j y n = ap fact_at (set_other fs k j y n)
 
 -- What is said of a result that is there is at most the fact that each closed assignment above has.
@@ -131,7 +131,7 @@ fact_within fs gs k j x said at less h = elim (is_or_not j k) [
   | inr n ↦ subst (λ f. IsBelow f (fact_of gs j)) (sym (raised_other fs k j (join (fact_of fs k) said) n)) (less j)
 ]
 
-fact_same : (a : Assigned) (k : ℕ) (x said : Fact) → slice_get a.facts k ≡ Some x → IsBelow said (fact_of a.facts k) → with_fact a k said ≡ a
+pub fact_same : (a : Assigned) (k : ℕ) (x said : Fact) → slice_get a.facts k ≡ Some x → IsBelow said (fact_of a.facts k) → with_fact a k said ≡ a
 fact_same a k x said at h =
     let is : join (fact_of a.facts k) said ≡ x = join_absorbs (fact_of a.facts k) said h ∙ fact_at_some a.facts k x at in
     let same : set a.facts k (join (fact_of a.facts k) said) ≡ a.facts = ap (set a.facts k) is ∙ set_is a.facts k x at in

@@ -202,6 +202,11 @@ block_suits : (items : List Item) (func : Func) (known : List Known) (returns : 
 block_suits items func known returns places blocks place block are h t = record {
   phis = λ a fits at k phi is. phi_suits places (types_of items func blocks) (record { known = known }) a (record { params = param_suits func.params known are; results = fits }) blocks place at phi
       (All-at (FormedPhi places) block.phis k phi h.phis is) (All-at (TypedPhi (types_of items func blocks) blocks place) block.phis k phi t.phis is);
+  entries = λ facts fits k j phi entry is at.
+      let formed = All-at (FormedPhi places) block.phis k phi h.phis is in
+      let typed = All-at (TypedPhi (types_of items func blocks) blocks place) block.phis k phi t.phis is in
+      operand_suits places (types_of items func blocks) (record { known = known }) facts (record { params = param_suits func.params known are; results = fits }) phi.ty entry.0
+      (All-at (λ e. IsOperand places phi.ty e.0) phi.entries j entry formed.has_operands at) (All-at (λ e. HasType (types_of items func blocks) phi.ty e.0) phi.entries j entry typed.has_types at);
   insts = λ facts fits k i ty is typed. inst_suits places (types_of items func blocks) (record { known = known }) facts (record { params = param_suits func.params known are; results = fits }) i ty
       (All-at (FormedInst places) block.insts k i h.insts is) (All-at (TypedInst (types_of items func blocks)) block.insts k i t.insts is) typed;
 }

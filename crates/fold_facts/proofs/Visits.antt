@@ -41,7 +41,7 @@ visit_goes setting blocks a b place first block changed v r = record {
 }
 
 -- what an assignment above that is closed has of the block
-closed_above : (setting : Setting) (blocks : List Block) (a other : Assigned) (place first : ℕ) (block : Block) → IsVisit setting blocks a place first block → IsClosed setting blocks other → IsAtMost a other → IsClosedBlock setting other place first block
+pub closed_above : (setting : Setting) (blocks : List Block) (a other : Assigned) (place first : ℕ) (block : Block) → IsVisit setting blocks a place first block → IsClosed setting blocks other → IsAtMost a other → IsClosedBlock setting other place first block
 closed_above setting blocks a other place first block v closed less =
     subst (λ n. IsClosedBlock setting other place n block) (sym v.numbered) (closed place block v.there (reached_rises a other less place v.reached))
 
@@ -71,7 +71,7 @@ pub phi_there : (setting : Setting) (blocks : List Block) (a : Assigned) (place 
     → slice_get (results_in blocks) (first + k) ≡ Some phi.ty
 phi_there setting blocks a place first k block phi v is = subst (λ n. slice_get (results_in blocks) (n + k) ≡ Some phi.ty) (sym v.numbered) (result_in blocks place block k phi.ty v.there (phi_result block k phi is))
 
-phi_said : (setting : Setting) (blocks : List Block) (b : Assigned) (place first n : ℕ) (block : Block) (phi : Phi) → IsVisit setting blocks b place first block → slice_get block.phis n ≡ Some phi
+pub phi_said : (setting : Setting) (blocks : List Block) (b : Assigned) (place first n : ℕ) (block : Block) (phi : Phi) → IsVisit setting blocks b place first block → slice_get block.phis n ≡ Some phi
     → IsSaid setting blocks b (first + n) phi.ty (phi_fact setting b place phi)
 phi_said setting blocks b place first n block phi v is = record {
   there = phi_there setting blocks b place first n block phi v is;
@@ -127,7 +127,7 @@ insts_start setting blocks a first number block fits is = record {
     none_taken [] = refl
     none_taken (i ∷ more) = refl
 
-inst_there : (setting : Setting) (blocks : List Block) (a : Assigned) (place first n : ℕ) (block : Block) (i : Inst) (ty : Scalar) → IsVisit setting blocks a place first block → slice_get block.insts n ≡ Some i → result_type i ≡ Some ty
+pub inst_there : (setting : Setting) (blocks : List Block) (a : Assigned) (place first n : ℕ) (block : Block) (i : Inst) (ty : Scalar) → IsVisit setting blocks a place first block → slice_get block.insts n ≡ Some i → result_type i ≡ Some ty
     → slice_get (results_in blocks) (inst_result block.insts (first + length block.phis) n) ≡ Some ty
 inst_there setting blocks a place first n block i ty v is typed =
     let e : first_result blocks place + (length block.phis + length (types (take n block.insts))) ≡ inst_result block.insts (first + length block.phis) n = omega (arith, v.numbered) in
@@ -144,7 +144,7 @@ inst_within setting blocks a b place first n number block i changed v h is some 
         let less = within (results_in blocks) (inst_result block.insts (first + length block.phis) n) ty (inst_there setting blocks b place first n block i ty next is e) in
         omega (arith, less, h.numbered, facts_long blocks b next.fits)
 
-inst_said : (setting : Setting) (blocks : List Block) (b : Assigned) (place first n : ℕ) (block : Block) (i : Inst) (ty : Scalar) → IsVisit setting blocks b place first block → slice_get block.insts n ≡ Some i → result_type i ≡ Some ty
+pub inst_said : (setting : Setting) (blocks : List Block) (b : Assigned) (place first n : ℕ) (block : Block) (i : Inst) (ty : Scalar) → IsVisit setting blocks b place first block → slice_get block.insts n ≡ Some i → result_type i ≡ Some ty
     → IsSaid setting blocks b (inst_result block.insts (first + length block.phis) n) ty (inst_fact setting b.facts i)
 inst_said setting blocks b place first n block i ty v is typed = record {
   there = inst_there setting blocks b place first n block i ty v is typed;

@@ -2,6 +2,7 @@
 use Rattle.std.specs.Prelude.{◌≡◌, ℕ, ◌+◌, ◌<◌, ◌^◌, Bool, true, false, List, Some, IsTrue, IsFalse, length, map, sum_by, slice_get, slice_set, if◌then◌else◌}
 use Rattle.std.specs.List.{AllZip}
 use Rattle.ir_types.specs.declared.scalar.Scalar.{Scalar}
+use Rattle.ir_syntax.specs.declared.constant.Operand.{Operand}
 use Rattle.ir_syntax.specs.declared.body.Inst.{Inst}
 use Rattle.ir_syntax.specs.declared.body.Phi.{Phi}
 use Rattle.ir_syntax.specs.declared.body.Block.{Block}
@@ -13,7 +14,7 @@ use Rattle.fold_facts.specs.declared.fact.Fact.TheVariants.{Unreached, One, Vary
 use Rattle.fold_facts.specs.declared.edge.Edge.{Edge}
 use Rattle.fold_facts.specs.Facts.{join}
 use Rattle.fold_facts.specs.Assigned.{Assigned, fact_of, edges_from, is_reached, IsAtMost}
-use Rattle.fold_facts.specs.Operands.{Setting}
+use Rattle.fold_facts.specs.Operands.{Setting, operand_fact}
 use Rattle.fold_facts.specs.Instructions.{inst_fact}
 use Rattle.fold_facts.specs.Phis.{phi_fact}
 use Rattle.fold_facts.specs.Closed.{IsClosed}
@@ -53,6 +54,8 @@ room a = sum_by fact_room a.facts + sum_by (λ edges. sum_by edge_room edges) a.
 pub record SaysItsTypes (setting : Setting) (results : List Scalar) (block : Block) : Type 0 where
   pub phis : (a : Assigned) → AllZip IsFactOf results a.facts → (place k : ℕ) (phi : Phi) → slice_get block.phis k ≡ Some phi
       → IsFactOf phi.ty (phi_fact setting a place phi)
+  pub entries : (facts : List Fact) → AllZip IsFactOf results facts → (k j : ℕ) (phi : Phi) (entry : Operand × ℕ) → slice_get block.phis k ≡ Some phi
+      → slice_get phi.entries j ≡ Some entry → IsFactOf phi.ty (operand_fact setting facts entry.0)
   pub insts : (facts : List Fact) → AllZip IsFactOf results facts → (k : ℕ) (inst : Inst) (ty : Scalar) → slice_get block.insts k ≡ Some inst
       → result_type inst ≡ Some ty → IsFactOf ty (inst_fact setting facts inst)
 

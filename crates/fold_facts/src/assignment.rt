@@ -148,8 +148,8 @@ impl Assignment {
         self.edge_at(block, k).reached
     }
 
-    /// Whether the block is reached: it is the first, or an edge that comes to it is.
-    pub(crate) fn is_reached(&self, place: usize) -> bool
+    /// Whether the block is reached: it is the first, or an edge that comes to it is. The block is to be one of the function.
+    pub fn is_reached(&self, place: usize) -> bool
         requires { place < length self.now.edges }
         ensures { result ≡ reached self.now place }
     {
@@ -157,7 +157,7 @@ impl Assignment {
     }
 
     /// Whether an edge from the one block to the other is reached.
-    pub(crate) fn enters(&self, from: usize, place: usize) -> bool
+    pub fn enters(&self, from: usize, place: usize) -> bool
         ensures { result ≡ entered self.now from place }
     {
         match self.edges.get(from) {
@@ -166,8 +166,8 @@ impl Assignment {
         }
     }
 
-    /// Raises the fact of a result to at least what is said of it. Gives whether that was new.
-    pub(crate) fn raise(&mut self, k: usize, said: Fact) -> bool
+    /// Raises the fact of the k-th result to at least what is said of it. Gives whether that was new. The result is to be there.
+    pub fn raise(&mut self, k: usize, said: Fact) -> bool
         requires { k < length self.old.facts }
         ensures value { self.new ≡ record { facts = slice_set self.old.facts k (joined (fact_in self.old.facts k) said); edges = self.old.edges } }
         ensures changed { MatchBool (not result) (IsBelow said (fact_in self.old.facts k)) (IsBelow said (fact_in self.old.facts k) → ⊥) }
@@ -194,8 +194,9 @@ impl Assignment {
         set_flag(&mut self.reached, to);
     }
 
-    /// Reaches the k-th edge that leaves the block. Gives whether that was new.
-    pub(crate) fn reach(&mut self, from: usize, k: usize) -> bool
+    /// Reaches the k-th edge that leaves the block, and so the block that it goes to. Gives whether that was new. The edge is to
+    /// be there.
+    pub fn reach(&mut self, from: usize, k: usize) -> bool
         requires { k < length (edges_from self.old from) }
         ensures new { IfSome (slice_get (edges_from self.old from) k) (λ edge. result ≡ not edge.reached) }
         ensures value { IfSome (slice_get (edges_from self.old from) k) (λ edge. self.new ≡ (if edge.reached then self.old else with_edge self.old from k edge.to)) }

@@ -1,6 +1,6 @@
 //! Assignments that are given by their edges and facts.
 ghost use Rattle.std.specs.Prelude.{◌≡◌, ◌≢◌, All, AllPairs, IfOk};
-ghost use Rattle.fold_facts.specs.declared.fact.Fact.TheVariants.{Varying};
+ghost use Rattle.fold_facts.specs.declared.fact.Fact.TheVariants.{Unreached, Varying};
 ghost use Rattle.fold_facts.specs.Places.{blocks_of as blocks_in};
 ghost use Rattle.fold_facts.specs.OfFunction.{IsAssignmentOf, IsAssignmentIn};
 ghost use Rattle.fold_facts.specs.Raising.{blank};
@@ -41,6 +41,14 @@ fn put_all(a: &mut Assignment, blocks: &[Block], facts: &[(usize, Fact)])
 }
 
 impl Assignment {
+    /// The assignment of a function in which no result and no edge is reached: a solver's first. `OutOfMemory` says that the
+    /// allocator refused memory.
+    pub fn unreached(alloc: Global, f: &Func) -> Result<Assignment, OutOfMemory>
+        ensures { IfOk result (λ a. a ≡ blank (blocks_in f.now) Unreached) }
+    {
+        Assignment::blank(alloc, blocks_of(f), Fact::Unreached)
+    }
+
     /// The assignment that reaches just these edges, each a block and a place among the edges that leave it, and that has these
     /// facts, each with the number of its result. Every other result varies.
     ///

@@ -29,5 +29,6 @@ pub use laws::{
 };
 pub use place::Place;
 pub use said::{Edges, Said};
-pub use says::transfer;
+pub use says::{transfer, transfer_entry};
 pub use solving::solve_plain;
+pub use terminators::asks;

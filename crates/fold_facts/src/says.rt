@@ -1,13 +1,14 @@
 //! What a place says.
-ghost use Rattle.std.specs.Prelude.{◌≡◌, ◌+◌, Some, slice_get, option_and_then};
-ghost use Rattle.fold_facts.specs.Places.{blocks_of as blocks_in, IsPlaceIn, said_at};
+ghost use Rattle.std.specs.Prelude.{◌≡◌, ◌+◌, Some, IsSome, slice_get, option_and_then};
+ghost use Rattle.fold_facts.specs.Places.{blocks_of as blocks_in, IsPlaceIn, said_at, entry_at, entry_said_at};
 ghost use Rattle.fold_facts.specs.OfFunction.{IsAssignmentOf};
 
 use crate::instructions::inst_fact;
+use crate::operands::operand_fact;
 use crate::phis::phi_fact;
 use crate::terminators::term_edges;
-use crate::{Assignment, Place, Said};
-use ir_syntax::{Block, Func};
+use crate::{Assignment, Fact, Place, Said};
+use ir_syntax::{Block, Func, Operand};
 use ir_types::Known;
 use occam_base::Steps;
 use std::sync::ledger::Ledger;
@@ -52,4 +53,36 @@ pub fn transfer<L: Ledger>(
         }
         Place::Term(place) => Said::Edges(term_edges(known, a.facts(), &blocks[place].term)),
     }
+}
+
+/// An entry of a phi.
+fn entry_of(blocks: &[Block], at: usize, phi: usize, entry: usize) -> &(Operand, usize)
+    requires { IsSome (entry_at blocks.now at phi entry) }
+    ensures { entry_at blocks.now at phi entry ≡ Some result.now }
+{
+    let phi = &blocks[at].phis.as_slice()[phi];
+    &phi.entries.as_slice()[entry]
+}
+
+/// What an entry of a phi asks for where the edge that it stands for is reached: that the phi's result is at least the fact of
+/// the entry's operand. A phi asks for the join of what its entries do. `at` is the phi's block, `phi` its place there, and
+/// `entry` the place among its entries.
+///
+/// The call counts one step, and takes no memory. The entry is to be one of the function.
+pub fn transfer_entry<L: Ledger>(
+    f: &Func,
+    known: &[Known],
+    at: usize,
+    phi: usize,
+    entry: usize,
+    a: &Assignment,
+    steps: &mut Steps<L>,
+) -> Fact
+    requires { IsSome (entry_at (blocks_in f.now) at phi entry) }
+    ensures said { Some result ≡ entry_said_at (record { known = known.now }) (blocks_in f.now) a.now.facts at phi entry }
+    ensures steps { steps.new ≡ steps.old + 1 }
+{
+    steps.tick();
+    let entry = entry_of(blocks_of(f), at, phi, entry);
+    operand_fact(known, a.facts(), &entry.0)
 }

@@ -7,8 +7,8 @@ use crate::{Edges, Fact};
 use ir_syntax::Term;
 use ir_types::Known;
 
-/// Whether the edge at a place is asked for.
-pub(crate) fn asks(edges: Edges, k: usize) -> bool
+/// Whether the k-th edge is among those that are asked for.
+pub fn asks(edges: Edges, k: usize) -> bool
     ensures { result ≡ asked edges k }
 {
     match edges {

@@ -254,3 +254,78 @@ define i32 @f(i32 %x) {
   %g = sext i1 %e to i8
   ret i32 %a
 }
+; == a loop that its constant never ends with _
+define i32 @f(i32 %n) {
+entry:
+  br label %loop
+loop:
+  %s = phi i32 [ 4, %entry ], [ %u, %loop ]
+  %u = sub i32 8, %s
+  %c = icmp eq i32 %u, 4
+  br i1 %c, label %loop, label %done
+done:
+  ret i32 %u
+}
+; == a switch of two edges to one block with 0
+define i32 @f(i32 %k) {
+entry:
+  switch i32 %k, label %d [ i32 0, label %x i32 1, label %x ]
+x:
+  %p = phi i32 [ 7, %entry ], [ 7, %entry ]
+  br label %z
+d:
+  br label %z
+z:
+  %q = phi i32 [ %p, %x ], [ 9, %d ]
+  ret i32 %q
+}
+; == a switch of two edges to one block, all taken with _
+define i32 @f(i32 %k) {
+entry:
+  switch i32 %k, label %d [ i32 0, label %x i32 1, label %x ]
+x:
+  %p = phi i32 [ 7, %entry ], [ 7, %entry ]
+  br label %z
+d:
+  br label %z
+z:
+  %q = phi i32 [ %p, %x ], [ 9, %d ]
+  ret i32 %q
+}
+; == a loop in a loop, both keep a constant with _
+define i32 @f(i32 %n) {
+entry:
+  br label %outer
+outer:
+  %a = phi i32 [ 3, %entry ], [ %b, %latch ]
+  br label %inner
+inner:
+  %b = phi i32 [ %a, %outer ], [ %c, %inner ]
+  %i = phi i32 [ 0, %outer ], [ %j, %inner ]
+  %c = add i32 %b, 0
+  %j = add i32 %i, 1
+  %t = icmp ult i32 %j, %n
+  br i1 %t, label %inner, label %latch
+latch:
+  %g = icmp ult i32 %c, %n
+  br i1 %g, label %outer, label %done
+done:
+  ret i32 %a
+}
+; == phis of a loop that change places with _
+define i32 @f(i1 %c) {
+entry:
+  br label %loop
+loop:
+  %x = phi i32 [ 0, %entry ], [ %y, %loop ]
+  %y = phi i32 [ 1, %entry ], [ %x, %loop ]
+  br i1 %c, label %loop, label %done
+done:
+  ret i32 %x
+}
+; == numbers of one bit with 1
+define i1 @f(i1 %x) {
+  %a = add i1 %x, true
+  %b = xor i1 %a, %x
+  ret i1 %b
+}

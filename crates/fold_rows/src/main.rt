@@ -2,22 +2,26 @@
 //! knows of its first function that has a body: `fold_rows FILE`. `KNOWN` is a number, `null` or `_`, one for each parameter;
 //! those that are missing or don't suit are `_`. An answer has the facts of the results (`-` of one that nothing reaches, `*`
 //! of one that varies), the reached edges as BLOCK.PLACE, and what the terminator of the first block asks for with the steps
-//! that were counted. A second line has the assignment that is given no edge and no fact, in which each result varies.
+//! that were counted. A second line has the assignment that is given no edge and no fact, in which each result varies; a third
+//! whether the solver by a worklist gives the same as the one by rounds, and how many transfers it may make.
 #![tactic(auto)]
 
 mod known;
 mod said;
 mod shown;
+mod sparse;
 
 ghost use Rattle.std.specs.Prelude.{IfSome};
 ghost use Rattle.ir_syntax.specs.Formed.{Formed};
 ghost use Rattle.ir_syntax.specs.Typed.{Typed};
 ghost use Rattle.ir_syntax.specs.Definite.{Definite};
 ghost use Rattle.ir_syntax.specs.SoundFunctions.{IsSoundFunction};
+ghost use Rattle.fold_facts.specs.OfFunction.{AreKnownOf};
 
 use crate::known::known_of;
 use crate::said::first_said;
 use crate::shown::shown;
+use crate::sparse::{most_transfers, solved};
 use fold_facts::{Assignment, solve_plain};
 use ir_check::check_types;
 use ir_parser::{read_module, what_is_spelled_is_formed};
@@ -101,7 +105,30 @@ fn folded(alloc: Global, name: &str, func: &Func) -> anyhow::Result<String>
     let blank = Assignment::of(alloc, func, &[], &[])?;
     let given = shown(alloc, func, known.as_slice(), &blank)?;
     let said = said_of(alloc, func, known.as_slice(), &least)?;
-    Ok(format!(in alloc; "{folded}{said}\n  with nothing given: {given}")?)
+    let sparse = compared(alloc, func, known.as_slice(), folded.as_str())?;
+    Ok(format!(in alloc;
+        "{folded}{said}\n  with nothing given: {given}\n  by a worklist: {sparse}"
+    )?)
+}
+
+// Whether the solver by a worklist gives what the one by rounds gave, within its bound.
+fn compared(alloc: Global, func: &Func, known: &[Known], folded: &str) -> anyhow::Result<String>
+    requires known { AreKnownOf func.now known.now }
+    requires sound { IsSoundFunction func.now }
+{
+    let (a, transfers) = solved::<Brand>(alloc, func, known, Blank::new(1))?;
+    let text = shown(alloc, func, known, &a)?;
+    let most = match &func.body {
+        Some(body) => most_transfers(body),
+        None => 0,
+    };
+    let same = if text.as_str() == folded {
+        "the same"
+    } else {
+        text.as_str()
+    };
+    let within = if transfers <= most { "within" } else { "past" };
+    Ok(format!(in alloc; "{same}, {within} {most} transfers")?)
 }
 
 // What the terminator of the first block asks for.

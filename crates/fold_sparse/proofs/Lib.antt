@@ -1,0 +1,12 @@
+pub mod Lists
+pub mod Grouping
+pub mod Opening
+pub mod Places
+pub mod Keys
+pub mod Edges
+pub mod Unread
+pub mod Raising
+pub mod Visiting
+pub mod Counting
+pub mod Starting
+pub mod Ending
