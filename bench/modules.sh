@@ -2,7 +2,8 @@
 # Reads modules of growing size and of many shapes and writes them again, and prints what the program says, time and peak
 # memory, and the time of reading alone; beside it the time of `opt -S` on the same file, where that tool is there and
 # takes the file. Shapes: many symbols, lines of metadata, one long c"..", one long array of bytes, a chain of named
-# types, and bodies of every kind of instruction. The sizes are 1, 4 and near 16 MiB.
+# types, and bodies of every kind of instruction. The sizes are 1, 4 and near 16 MiB. One shape is read alone, for at most
+# a minute: an array of parts of a named type of 4,000 nodes, whose canonical text would write the type out at each part.
 set -eu
 . "$(dirname "$0")/build.sh"
 build modules_bench
@@ -59,6 +60,23 @@ bodies() { # functions of some 24 lines
   }'
 }
 
+parts() { # count: an array of parts whose type is a name that stands for a struct of 3,999 fields
+  awk -v n="$1" 'BEGIN {
+    printf "%%t = type { i8"
+    for (i = 1; i < 3999; i++) printf ", i8"
+    printf " }\n@parts = global [%d x %%t] [%%t zeroinitializer", n
+    for (i = 1; i < n; i++) printf ", %%t zeroinitializer"
+    print "]"
+  }'
+}
+
+reads() { # name file
+  local status=0
+  timeout 60 /usr/bin/time -f '%e s, %M KiB' "$program" read "$2" >"$work/line" 2>"$work/time" || status=$?
+  if [ "$status" -eq 124 ]; then echo 'not read in 60 s' >"$work/line"; fi
+  printf '%-9s %8d bytes  %-32s read: %s\n' "$1" "$(wc -c <"$2")" "$(cat "$work/line")" "$(tail -n 1 "$work/time")"
+}
+
 run() { # name file
   /usr/bin/time -f '%e s, %M KiB' "$program" "$2" 2>"$work/time" >"$work/line" || true
   /usr/bin/time -f '%e s' "$program" read "$2" >"$work/line2" 2>"$work/alone" || true
@@ -75,6 +93,8 @@ for scale in 1 4 16; do
   bytes $((scale * 160000)) >"$work/module.ll" && run bytes "$work/module.ll"
   chain $((scale * 6250)) >"$work/module.ll" && run chain "$work/module.ll"
   bodies $((scale * 980)) >"$work/module.ll" && run bodies "$work/module.ll"
+  parts $((scale * 47600)) >"$work/module.ll" && reads parts "$work/module.ll"
 done
 symbols 100000 >"$work/module.ll" && run symbols "$work/module.ll"
 metadata 1000000 >"$work/module.ll" && run metadata "$work/module.ll"
+parts 837000 >"$work/module.ll" && reads parts "$work/module.ll"
