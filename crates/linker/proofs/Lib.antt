@@ -1,0 +1,13 @@
+pub mod NameOrder
+pub mod Numbers
+pub mod Refusing
+pub mod Lists
+pub mod Grouping
+pub mod Members
+pub mod Marking
+pub mod Judging
+pub mod Tables
+pub mod Entries
+pub mod Deployed
+pub mod Assembled
+pub mod Steps
