@@ -1,0 +1,9 @@
+pub mod Deployments
+pub mod Judgements
+pub mod Lists
+pub mod Loads
+pub mod OneAnswer
+pub mod OneRefusal
+pub mod Stops
+pub mod Walks
+pub mod WholeFiles

@@ -1,0 +1,4 @@
+pub mod Reading
+pub mod Refusing
+pub mod Loading
+pub mod Steps
