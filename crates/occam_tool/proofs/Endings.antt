@@ -4,7 +4,7 @@ use Rattle.std.specs.Prelude.{IfSome}
 use Rattle.std.specs.FinMap as map
 use Rattle.occam_base.specs.declared.code.Code.{Code}
 use Rattle.occam_base.specs.declared.code.Code.TheVariants as code
-use Rattle.occam_tool.specs.declared.job.Detail.TheVariants as detail
+use Rattle.program_loader.specs.declared.refusal.Detail.TheVariants as detail
 use Rattle.occam_base.specs.Files.{FileMap}
 use Rattle.ir_syntax.specs.declared.item.Module.{Module}
 use Rattle.fixed_point.specs.declared.fault.FixFault.{FixFault}
@@ -13,10 +13,11 @@ use Rattle.ir_types.specs.declared.scalar.Known.{Known}
 use Rattle.name_table.specs.Places.{place_among}
 use Rattle.ir_writer.specs.Modules.{item_names, module_text}
 use Rattle.straight_plan.specs.Left.{left_module}
-use Rattle.occam_tool.specs.declared.job.Refusal.{Refusal}
+use Rattle.program_loader.specs.declared.refusal.Refusal.{Refusal}
 use Rattle.occam_tool.specs.declared.plan.Plan.{Plan}
 use Rattle.occam_tool.specs.declared.left.Left.{Left}
-use Rattle.occam_tool.specs.Outcome.{Winnows, is_free, output_name, start_of, refusal, Reads, Leaves}
+use Rattle.program_loader.specs.Refusing.{refusal}
+use Rattle.occam_tool.specs.Outcome.{Winnows, is_free, output_name, start_of, Reads, Leaves}
 use Rattle.occam_tool.specs.Outcome.RefusesPlan.{TooMany, TooMuch}
 use Rattle.occam_tool.specs.Outcome.Winnows.{ManifestRefused, ModuleRefused, PlanRefused, Written}
 use Rattle.occam_tool.specs.Steps.{PlanGives, ModuleGives, Put, LeftGives, LeavesAt, fault_code, CanStop, CanEnd}

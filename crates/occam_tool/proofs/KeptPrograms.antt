@@ -1,5 +1,5 @@
 -- What winnowing wrote means what it was given.
-use Rattle.std.proofs.Common.{◌≡◌, ◌∙◌, ℕ, ◌<◌, ◌≤◌, ◌/◌, ◌^◌, ◌⊎◌, inl, inr, true, false, List, [], ◌∷◌, map, Option, Some, None, Result, Err, All, IsTrue, length, slice_get, refl, sym, ap, subst}
+use Rattle.std.proofs.Common.{◌≡◌, ◌∙◌, ℕ, ◌<◌, ◌≤◌, ◌/◌, ◌^◌, ◌⊎◌, true, false, List, [], ◌∷◌, map, Option, Some, None, Result, Err, All, IsTrue, length, slice_get, refl, sym, ap, subst}
 use Rattle.std.specs.Prelude.{IfSome, IsSome}
 use Rattle.std.proofs.lemmas.List.Elements.{recursion_from_All, All-from_recursion}
 use Rattle.ir_types.specs.declared.scalar.Known.{Known}
@@ -30,11 +30,12 @@ use Rattle.straight_meaning.specs.declared.session.Phase.TheVariants as phase
 use Rattle.straight_meaning.specs.Run.{Moment, moment, run, Conforms, begun}
 use Rattle.straight_meaning.specs.Kept.{Agree, kept_steps, longest_block}
 use Rattle.straight_meaning.specs.Lawful.{IsFor}
-use Rattle.occam_tool.specs.declared.job.Refusal.{Refusal}
+use Rattle.program_loader.specs.declared.refusal.Refusal.{Refusal}
 use Rattle.occam_tool.specs.declared.job.Report.{Report}
 use Rattle.occam_tool.specs.Entering.{IsKnownWord, AreWords}
 use Rattle.occam_tool.specs.Manifests.{IsWord, known_arg}
 use Rattle.occam_tool.specs.Words.{command_of}
+use Rattle.occam_tool.specs.Words.Command.{Winnow}
 use Rattle.occam_tool.specs.Lines.{answer_code}
 use Rattle.occam_tool.specs.Outcome.{Outputs, NamesModule, Reads, Winnows, RefusesManifest, RefusesModule, RefusesPlan, start_of, put_all}
 use Rattle.occam_tool.specs.Outcome.Winnows.{ManifestRefused, ModuleRefused, PlanRefused, Written}
@@ -155,7 +156,7 @@ left_spelled laws m place args plan plain h few =
     laws.spells left (laws.formed left straight (laws.left_names m start plan (no_intrinsics m.items plain))) (laws.in_range left straight (left_bytes m start plan plain h.planned))
 
 keeps_of : (laws : Laws) (words : List (List ℕ)) (files : FileMap) (new : Option FileMap) (manifest outdir : List ℕ) (answer : Result Report Refusal) (outputs : Outputs)
-    → Winnows files manifest outdir answer outputs → command_of words ≡ Some (manifest, outdir) → answer_code answer ≡ code.Done → new ≡ Some (put_all outputs files) → Keeps words files new
+    → Winnows files manifest outdir answer outputs → command_of words ≡ Some (Winnow manifest outdir) → answer_code answer ≡ code.Done → new ≡ Some (put_all outputs files) → Keeps words files new
 keeps_of laws words files new manifest outdir answer outputs (ManifestRefused r h a n) c d e = manifest_not_done files manifest r h (refused_code answer r a d)
 keeps_of laws words files new manifest outdir answer outputs (ModuleRefused file entry args r names h a n) c d e = module_not_done files file entry args r h (refused_code answer r a d)
 keeps_of laws words files new manifest outdir answer outputs (PlanRefused file entry args m place r names reads h a n) c d e = plan_not_done m (start_of m place args) r h (refused_code answer r a d)
@@ -192,11 +193,7 @@ keeps_of laws words files new manifest outdir answer outputs (Written file entry
     }
 
 pub kept_command : (laws : Laws) (files new : Option FileMap) (words : List (List ℕ)) (m o : List ℕ) (taken taken_new : Option (List ℕ)) (faults faults_new : ℕ) (status : Code)
-    → command_of words ≡ Some (m, o) → IfSome files (λ f. WinnowEnds f new m o taken taken_new faults faults_new status) → status ≡ code.Done → IfSome files (λ f. Keeps words f new)
+    → command_of words ≡ Some (Winnow m o) → IfSome files (λ f. WinnowEnds f new m o taken taken_new faults faults_new status) → status ≡ code.Done → IfSome files (λ f. Keeps words f new)
 kept_command laws None new words m o taken taken_new faults faults_new status e h d = tt
 kept_command laws (Some files) new words m o taken taken_new faults faults_new status e h d =
     keeps_of laws words files new m o h.answer h.leaves.0 h.leaves.1 e (sym h.status_is ∙ d) h.leaves.2
-
-pub usage_not_done : {P : Type 0} → (status : Code) → (status ≡ code.Usage) ⊎ (status ≡ code.OutOfMemory) → status ≡ code.Done → P
-usage_not_done status (inl e) d = absurd (let clash : code.Usage ≡ code.Done = sym e ∙ d in cc)
-usage_not_done status (inr e) d = absurd (let clash : code.OutOfMemory ≡ code.Done = sym e ∙ d in cc)

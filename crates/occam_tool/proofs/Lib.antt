@@ -4,7 +4,8 @@ pub mod Outcomes
 pub mod Plans
 pub mod Printed
 pub mod Refusals
-pub mod WholeFiles
+pub mod LoadedChecks
+pub mod Counted
 pub mod KnownArguments
 pub mod TakenArguments
 pub mod LeftCounts

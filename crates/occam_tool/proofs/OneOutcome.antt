@@ -13,17 +13,24 @@ use Rattle.ir_writer.specs.Modules.{item_names, module_text}
 use Rattle.straight_plan.specs.declared.cut.Ask.{Ask}
 use Rattle.straight_plan.specs.declared.cut.Cut.{Cut}
 use Rattle.straight_plan.specs.Left.{AreTooMany, IsTooMuch, IsPlanned, IsLeastPlan, left_module}
-use Rattle.occam_tool.specs.declared.job.Refusal.{Refusal}
+use Rattle.program_loader.specs.declared.refusal.Refusal.{Refusal}
 use Rattle.occam_tool.specs.declared.job.Report.{Report}
 use Rattle.occam_tool.specs.Manifests.{IsSingleManifest, known_arg}
-use Rattle.occam_tool.specs.Words.{command_of}
-use Rattle.occam_tool.specs.Lines.{answer_code, answer_line}
+use Rattle.occam_tool.specs.Lines.{answer_code, winnow_line, check_line}
 use Rattle.occam_tool.specs.Outcome.{NamesModule, Outputs, Winnows, RefusesManifest, RefusesModule, RefusesPlan, Reads, start_of, report_of, output_name}
 use Rattle.occam_tool.specs.Outcome.Winnows.{ManifestRefused, ModuleRefused, PlanRefused, Written}
 use Rattle.occam_tool.specs.Outcome.RefusesManifest.{ManifestAbsent, NotSingle}
 use Rattle.occam_tool.specs.Outcome.RefusesModule.{ModuleAbsent, NotStraight}
 use Rattle.occam_tool.specs.Outcome.RefusesPlan.{TooMany, TooMuch}
-use Rattle.occam_tool.specs.Program.{Answers, IsOutcome}
+use Rattle.ir_syntax.specs.Programs.{ProgramData}
+use Rattle.program_loader.specs.Loading.{IsLoaded, RefusesLoading}
+use Rattle.occam_tool.specs.declared.job.Checked.{Checked}
+use Rattle.occam_tool.specs.Counts.{counts_of}
+use Rattle.occam_tool.specs.Checkings.{Checks}
+use Rattle.occam_tool.specs.Words.{Command, command_of}
+use Rattle.occam_tool.specs.Words.Command.{Winnow, Check}
+use Rattle.occam_tool.specs.Program.{IsOutcome}
+use Rattle.occam_tool.specs.Program.IsOutcome.{OfNoCommand, OfWinnow, OfCheck}
 
 -- the laws that it rests on
 pub record OneLaws : Type 0 where
@@ -33,6 +40,9 @@ pub record OneLaws : Type 0 where
   pub not_many : (items : List Item) (start : Ask) (plan : List Cut) → IsPlanned items start plan → AreTooMany items start → ⊥
   pub not_much : (items : List Item) (start : Ask) (plan : List Cut) → IsPlanned items start plan → IsTooMuch items start → ⊥
   pub not_both : (items : List Item) (start : Ask) → IsTooMuch items start → AreTooMany items start → ⊥
+  pub one_loaded : (files : FileMap) (name : List ℕ) (m n : Manifest) (p q : ProgramData) → IsLoaded files name m p → IsLoaded files name n q → p.modules ≡ q.modules
+  pub one_refusal : (files : FileMap) (name : List ℕ) (r s : Refusal) → RefusesLoading files name r → RefusesLoading files name s → r ≡ s
+  pub not_refused : (files : FileMap) (name : List ℕ) (m : Manifest) (p : ProgramData) (r : Refusal) → IsLoaded files name m p → RefusesLoading files name r → ⊥
 
 one_some : {X : Type 0} (x y : X) → Some x ≡ Some y → x ≡ y
 one_some x y e = cc
@@ -191,12 +201,59 @@ one_winnowing laws files manifest outdir a b o p (Written file entry args m plac
     let whole : Done outdir file args m place plan ≡ Done outdir f x u v other = here ∙ (λ i. Done outdir (same.0 i) (same.2 i) u v other) in
     (e ∙ ap (λ (y : Result Report Refusal × Outputs). y.0) whole ∙ sym d, n ∙ ap (λ (y : Result Report Refusal × Outputs). y.1) whole ∙ sym k)
 
-one_answer : OneLaws → (files : FileMap) (command : Option (List ℕ × List ℕ)) (a b : Result Report Refusal) (o p : Outputs) → Answers command files a o → Answers command files b p → Same a b o p
-one_answer laws files None a b o p x y = (x.0 ∙ sym y.0, x.1 ∙ sym y.1)
-one_answer laws files (Some command) a b o p x y = one_winnowing laws files command.0 command.1 a b o p x y
+-- ---- checking
+
+one_checking : OneLaws → (files : FileMap) (manifest : List ℕ) (a b : Result Checked Refusal) → Checks files manifest a → Checks files manifest b → a ≡ b
+one_checking laws files manifest (Ok a) (Ok b) x y =
+    let modules = laws.one_loaded files manifest x.deployment y.deployment x.program y.program x.loaded y.loaded in
+    ap (λ c. Ok c) (x.counts_are ∙ ap counts_of modules ∙ sym y.counts_are)
+one_checking laws files manifest (Ok a) (Err r) x y = absurd (laws.not_refused files manifest x.deployment x.program r x.loaded y)
+one_checking laws files manifest (Err r) (Ok b) x y = absurd (laws.not_refused files manifest y.deployment y.program r y.loaded x)
+one_checking laws files manifest (Err r) (Err s) x y = ap (λ c. Err c) (laws.one_refusal files manifest r s x y)
+
+-- ---- the words
+
+abbrev SameOutcome : (s t : Code) (o p : Outputs) (k l : List ℕ) → Type 0
+SameOutcome s t o p k l = (s ≡ t) × (o ≡ p) × (k ≡ l)
+
+one_command : (words : List (List ℕ)) (a b : Option Command) → command_of words ≡ a → command_of words ≡ b → a ≡ b
+one_command words a b e d = sym e ∙ d
+
+manifest_of : Option Command → List ℕ
+manifest_of None = []
+manifest_of (Some (Winnow m o)) = m
+manifest_of (Some (Check m)) = m
+
+folder_of : Option Command → List ℕ
+folder_of None = []
+folder_of (Some (Winnow m o)) = o
+folder_of (Some (Check m)) = []
+
+same_winnow : OneLaws → (files : FileMap) (s t : Code) (o p : Outputs) (k l : List ℕ) (m d n e : List ℕ) (a b : Result Report Refusal) → m ≡ n → d ≡ e
+    → Winnows files m d a o → Winnows files n e b p → s ≡ answer_code a → t ≡ answer_code b → k ≡ winnow_line a → l ≡ winnow_line b → SameOutcome s t o p k l
+same_winnow laws files s t o p k l m d n e a b same_name same_folder x y sa tb ka lb =
+    let back : Winnows files m d b p = subst (λ c. Winnows files c d b p) (sym same_name) (subst (λ c. Winnows files n c b p) (sym same_folder) y) in
+    let same = one_winnowing laws files m d a b o p x back in
+    (sa ∙ ap answer_code same.0 ∙ sym tb, same.1, ka ∙ ap winnow_line same.0 ∙ sym lb)
+
+same_check : OneLaws → (files : FileMap) (s t : Code) (o p : Outputs) (k l : List ℕ) (m n : List ℕ) (a b : Result Checked Refusal) → m ≡ n
+    → Checks files m a → Checks files n b → o ≡ [] → p ≡ [] → s ≡ answer_code a → t ≡ answer_code b → k ≡ check_line a → l ≡ check_line b → SameOutcome s t o p k l
+same_check laws files s t o p k l m n a b names x y oe pe sa tb ka lb =
+    let same = one_checking laws files m a b x (subst (λ c. Checks files c b) (sym names) y) in
+    (sa ∙ ap answer_code same ∙ sym tb, oe ∙ sym pe, ka ∙ ap check_line same ∙ sym lb)
 
 pub one_outcome : OneLaws → (words : List (List ℕ)) (files : FileMap) (s t : Code) (o p : Outputs) (k l : List ℕ) → IsOutcome words files s o k → IsOutcome words files t p l
     → (s ≡ t) × (o ≡ p) × (k ≡ l)
-one_outcome laws words files s t o p k l x y =
-    let same = one_answer laws files (command_of words) x.answer y.answer o p x.answers y.answers in
-    (x.status_is ∙ ap answer_code same.0 ∙ sym y.status_is, same.1, x.line_is ∙ ap answer_line same.0 ∙ sym y.line_is)
+unfolding manifest_of folder_of
+one_outcome laws words files s t o p k l (OfNoCommand c se oe ke) (OfNoCommand d te pe le) = (se ∙ sym te, oe ∙ sym pe, ke ∙ sym le)
+one_outcome laws words files s t o p k l (OfNoCommand c se oe ke) (OfWinnow n e b d y te le) = absurd (let clash : None ≡ Some (Winnow n e) = sym c ∙ d in cc)
+one_outcome laws words files s t o p k l (OfNoCommand c se oe ke) (OfCheck n b d y pe te le) = absurd (let clash : None ≡ Some (Check n) = sym c ∙ d in cc)
+one_outcome laws words files s t o p k l (OfWinnow m f a c x se ke) (OfNoCommand d te pe le) = absurd (let clash : None ≡ Some (Winnow m f) = sym d ∙ c in cc)
+one_outcome laws words files s t o p k l (OfWinnow m f a c x se ke) (OfWinnow n e b d y te le) =
+    let same = one_command words (Some (Winnow m f)) (Some (Winnow n e)) c d in
+    same_winnow laws files s t o p k l m f n e a b (ap manifest_of same) (ap folder_of same) x y se te ke le
+one_outcome laws words files s t o p k l (OfWinnow m f a c x se ke) (OfCheck n b d y pe te le) = absurd (let clash : Some (Winnow m f) ≡ Some (Check n) = sym c ∙ d in cc)
+one_outcome laws words files s t o p k l (OfCheck m a c x oe se ke) (OfNoCommand d te pe le) = absurd (let clash : None ≡ Some (Check m) = sym d ∙ c in cc)
+one_outcome laws words files s t o p k l (OfCheck m a c x oe se ke) (OfWinnow n e b d y te le) = absurd (let clash : Some (Check m) ≡ Some (Winnow n e) = sym c ∙ d in cc)
+one_outcome laws words files s t o p k l (OfCheck m a c x oe se ke) (OfCheck n b d y pe te le) =
+    same_check laws files s t o p k l m n a b (ap manifest_of (one_command words (Some (Check m)) (Some (Check n)) c d)) x y oe pe se te ke le

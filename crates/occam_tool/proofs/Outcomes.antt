@@ -5,13 +5,20 @@ use Rattle.occam_base.specs.declared.code.Code.{Code}
 use Rattle.occam_base.specs.declared.code.Code.TheVariants as code
 use Rattle.occam_base.specs.Counts.{Rose}
 use Rattle.occam_base.specs.Files.{FileMap}
-use Rattle.occam_tool.specs.declared.job.Detail.TheVariants as detail
-use Rattle.occam_tool.specs.declared.job.Refusal.{Refusal}
+use Rattle.program_loader.specs.declared.refusal.Detail.TheVariants as detail
+use Rattle.program_loader.specs.declared.refusal.Refusal.{Refusal}
 use Rattle.occam_tool.specs.declared.job.Report.{Report}
 use Rattle.occam_tool.specs.Words.{command_of}
-use Rattle.occam_tool.specs.Lines.{report_line, refusal_line, answer_line}
-use Rattle.occam_tool.specs.Outcome.{is_free, refusal, Leaves}
-use Rattle.occam_tool.specs.Program.{Answers, Ends, TakesLine, TakesRefusal}
+use Rattle.occam_tool.specs.Words.Command.{Winnow, Check}
+use Rattle.occam_tool.specs.Lines.{report_line, refusal_line, winnow_line, check_line, checked_line, TakesLine}
+use Rattle.program_loader.specs.Refusing.{refusal}
+use Rattle.occam_tool.specs.Outcome.{is_free, Leaves}
+use Rattle.occam_tool.specs.Program.{Ends, TakesRefusal}
+use Rattle.occam_tool.specs.Program.IsOutcome.{OfNoCommand, OfWinnow, OfCheck}
+use Rattle.occam_tool.specs.declared.job.Checked.{Checked}
+use Rattle.program_loader.specs.Refusing.{CanRefuse}
+use Rattle.program_loader.specs.Loading.{IsUnread}
+use Rattle.occam_tool.specs.Checkings.{Checks, CheckEnds}
 use Rattle.occam_tool.specs.Winnowings.{WinnowEnds}
 
 unlike : {P : Type 0} → (c other : Code) → is_free c ≡ false → is_free other ≡ true → c ≡ other → P
@@ -58,17 +65,84 @@ refused_ends (Some files) new m o jm jo taken taken_new faults faults_new r stat
       taken_is = refused_taken taken taken_new faults faults_new (refusal_line r) status (λ e. other (sym same ∙ e)) (λ e. unlike status code.OutOfMemory f refl e) takes;
     }
 
-pub told_command : (files new : Option FileMap) (words : List (List ℕ)) (m o : List ℕ) (taken taken_new : Option (List ℕ)) (faults faults_new : ℕ) (status : Code) → command_of words ≡ Some (m, o)
+pub told_winnow : (files new : Option FileMap) (words : List (List ℕ)) (m o : List ℕ) (taken taken_new : Option (List ℕ)) (faults faults_new : ℕ) (status : Code) → command_of words ≡ Some (Winnow m o)
     → IfSome files (λ f. WinnowEnds f new m o taken taken_new faults faults_new status)
     → IfSome files (λ f. Ends words f new taken taken_new faults faults_new status)
-told_command None new words m o taken taken_new faults faults_new status e h = tt
-told_command (Some files) new words m o taken taken_new faults faults_new status e h = record {
+told_winnow None new words m o taken taken_new faults faults_new status e h = tt
+told_winnow (Some files) new words m o taken taken_new faults faults_new status e h = record {
   outputs = h.leaves.0;
-  line = answer_line h.answer;
-  outcome = record { answer = h.answer; answers = subst (λ c. Answers c files h.answer h.leaves.0) (sym e) h.leaves.1; status_is = h.status_is; line_is = refl };
+  line = winnow_line h.answer;
+  outcome = OfWinnow m o h.answer e h.leaves.1 h.status_is refl;
   files_are = h.leaves.2;
   taken_is = h.taken_is;
 }
+
+pub told_check : (files new : Option FileMap) (words : List (List ℕ)) (m : List ℕ) (taken taken_new : Option (List ℕ)) (faults faults_new : ℕ) (status : Code) → command_of words ≡ Some (Check m)
+    → IfSome files (λ f. CheckEnds f new m taken taken_new faults faults_new status)
+    → IfSome files (λ f. Ends words f new taken taken_new faults faults_new status)
+told_check None new words m taken taken_new faults faults_new status e h = tt
+told_check (Some files) new words m taken taken_new faults faults_new status e h = record {
+  outputs = [];
+  line = check_line h.answer;
+  outcome = OfCheck m h.answer e h.checks refl h.status_is refl;
+  files_are = h.files_are;
+  taken_is = h.taken_is;
+}
+
+-- ---- from what checking answers
+
+pub checked_ends : (files new : Option FileMap) (m name : List ℕ) (taken taken_new : Option (List ℕ)) (faults faults_new : ℕ) (counts : Checked) (status : Code) → name ≡ m → new ≡ files
+    → IfSome files (λ f. Checks f name (Ok counts)) → (status ≡ code.Done) ⊎ ((status ≡ code.OutOfMemory) ⊎ (status ≡ code.PrintFault))
+    → (status ≡ code.Done → TakesLine taken taken_new (checked_line counts)) → is_free status ≡ false
+    → IfSome files (λ f. CheckEnds f new m taken taken_new faults faults_new status)
+checked_ends None new m name taken taken_new faults faults_new counts status same kept checks is takes f = tt
+checked_ends (Some files) new m name taken taken_new faults faults_new counts status same kept checks is takes f =
+    let done = done_status status f is in
+    record { answer = Ok counts; checks = subst (λ x. Checks files x (Ok counts)) same checks; files_are = kept; status_is = done; taken_is = λ h. takes done }
+
+-- a refusal of loading is never Done
+can_not_be : (c : Code) → CanRefuse c → c ≡ code.Done → ⊥
+can_not_be c h e = let P : Code → Type 0 = λ x. CanRefuse x in subst P e h
+
+pub check_refused_ends : (files new : Option FileMap) (m name : List ℕ) (taken taken_new : Option (List ℕ)) (faults faults_new : ℕ) (r : Refusal) (status : Code) → name ≡ m → new ≡ files
+    → (is_free r.code ≡ false → IfSome files (λ f. Checks f name (Err r))) → CanRefuse r.code → (status ≡ r.code) ⊎ (status ≡ code.OutOfMemory)
+    → (status ≢ code.OutOfMemory → (Rose faults faults_new → ⊥) → TakesLine taken taken_new (refusal_line r)) → is_free status ≡ false
+    → IfSome files (λ f. CheckEnds f new m taken taken_new faults faults_new status)
+check_refused_ends None new m name taken taken_new faults faults_new r status same kept checks can is takes f = tt
+check_refused_ends (Some files) new m name taken taken_new faults faults_new r status same kept checks can is takes f =
+    let here = refused_status status r.code f is in
+    record {
+      answer = Err r;
+      checks = subst (λ x. Checks files x (Err r)) same (checks (ap is_free (sym here) ∙ f));
+      files_are = kept;
+      status_is = here;
+      taken_is = refused_taken taken taken_new faults faults_new (refusal_line r) status (λ e. can_not_be r.code can (sym here ∙ e)) (λ e. unlike status code.OutOfMemory f refl e) takes;
+    }
+
+-- the status of a refusal of loading
+pub can_check : (r : Refusal) (status : Code) → CanRefuse r.code → (status ≡ r.code) ⊎ (status ≡ code.OutOfMemory) → (status ≡ code.Done) ⊎ ((status ≡ code.PrintFault) ⊎ CanRefuse status)
+can_check r status can (inl e) = inr (inr (subst CanRefuse (sym e) can))
+can_check r status can (inr e) = inr (inr (subst CanRefuse (sym e) tt))
+
+pub never_usage : (r : Refusal) (status : Code) → CanRefuse r.code → (status ≡ r.code) ⊎ (status ≡ code.OutOfMemory) → status ≢ code.Usage
+never_usage r status can (inl e) u = subst CanRefuse (sym e ∙ u) can
+never_usage r status can (inr e) u = let clash : code.OutOfMemory ≡ code.Usage = sym e ∙ u in cc
+
+never_memory : {P : Type 0} → (status : Code) → status ≡ code.ReadFault → status ≡ code.OutOfMemory → P
+never_memory status e d = absurd (let clash : code.ReadFault ≡ code.OutOfMemory = sym e ∙ d in cc)
+
+of_read : (status wanted : Code) → status ≡ code.ReadFault → (status ≡ wanted) ⊎ (status ≡ code.OutOfMemory) → wanted ≡ code.ReadFault
+of_read status wanted e (inl d) = sym d ∙ e
+of_read status wanted e (inr d) = never_memory status e d
+
+-- the file whose reading failed is named
+pub unread_told : (files : Option FileMap) (m name : List ℕ) (taken taken_new : Option (List ℕ)) (faults faults_new : ℕ) (r : Refusal) (status : Code) → name ≡ m
+    → (r.code ≡ code.ReadFault → IfSome files (λ f. IsUnread f name r)) → (status ≡ r.code) ⊎ (status ≡ code.OutOfMemory)
+    → (status ≢ code.OutOfMemory → (Rose faults faults_new → ⊥) → TakesLine taken taken_new (refusal_line r)) → status ≡ code.ReadFault → (Rose faults faults_new → ⊥)
+    → IfSome files (λ f. (x : Refusal) × IsUnread f m x × TakesLine taken taken_new (refusal_line x))
+unread_told None m name taken taken_new faults faults_new r status same unread is takes e quiet = tt
+unread_told (Some files) m name taken taken_new faults faults_new r status same unread is takes e quiet =
+    (r, subst (λ x. IsUnread files x r) same (unread (of_read status r.code e is)), takes (λ d. never_memory status e d) quiet)
 
 abbrev usage : Refusal
 usage = refusal code.Usage detail.Nothing
@@ -86,7 +160,7 @@ told_usage (Some files) words taken taken_new faults faults_new status e is take
     record {
       outputs = [];
       line = refusal_line usage;
-      outcome = record { answer = Err usage; answers = let P : Option (List ℕ × List ℕ) → Type 0 = λ c. Answers c files (Err usage) [] in subst P (sym e) (refl, refl); status_is = same; line_is = refl };
+      outcome = OfNoCommand e same refl refl;
       files_are = refl;
       taken_is = refused_taken taken taken_new faults faults_new (refusal_line usage) status (not_done status same) (λ e. unlike status code.OutOfMemory f refl e) takes;
     }

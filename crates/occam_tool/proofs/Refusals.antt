@@ -4,14 +4,15 @@ use Rattle.occam_base.specs.declared.code.Code.TheVariants as code
 use Rattle.occam_base.specs.Files.{FileMap, file_of}
 use Rattle.ir_syntax.specs.declared.item.Module.{Module}
 use Rattle.straight_form.specs.Form.{IsStraightForm}
-use Rattle.occam_tool.specs.declared.job.Detail.TheVariants as detail
-use Rattle.occam_tool.specs.declared.job.Refusal.{Refusal}
+use Rattle.program_loader.specs.declared.refusal.Detail.TheVariants as detail
+use Rattle.program_loader.specs.declared.refusal.Refusal.{Refusal}
 use Rattle.occam_tool.specs.declared.plan.Plan.{Plan}
-use Rattle.occam_tool.specs.declared.reading.Stop.{Stop}
-use Rattle.occam_tool.specs.declared.reading.Stop.TheVariants as stop
+use Rattle.program_loader.specs.declared.reading.Stop.{Stop}
+use Rattle.program_loader.specs.declared.reading.Stop.TheVariants as stop
 use Rattle.occam_tool.specs.Manifests.{PlanOf}
-use Rattle.occam_tool.specs.Reading.{WholeGives, WholeOf}
-use Rattle.occam_tool.specs.Outcome.{refusal, is_free}
+use Rattle.program_loader.specs.Reading.{WholeGives, WholeOf}
+use Rattle.program_loader.specs.Refusing.{refusal}
+use Rattle.occam_tool.specs.Outcome.{is_free}
 use Rattle.occam_tool.specs.Outcome.RefusesManifest.{NotSingle}
 use Rattle.occam_tool.specs.Outcome.RefusesModule.{NotStraight}
 use Rattle.occam_tool.specs.Steps.{PlanGives, ModuleGives}

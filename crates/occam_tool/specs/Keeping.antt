@@ -14,6 +14,7 @@ use Rattle.straight_meaning.specs.declared.session.Phase.TheVariants as phase
 use Rattle.straight_meaning.specs.Run.{Moment, moment, run, Conforms, begun}
 use Rattle.straight_meaning.specs.Kept.{Agree, kept_steps, longest_block}
 use Rattle.occam_tool.specs.Words.{command_of}
+use Rattle.occam_tool.specs.Words.Command.{Winnow}
 use Rattle.occam_tool.specs.Outcome.{NamesModule, Reads, start_of, output_name}
 
 pub record Keeps (words : List (List ℕ)) (files : FileMap) (files_new : Option FileMap) : Type 0 where
@@ -28,7 +29,7 @@ pub record Keeps (words : List (List ℕ)) (files : FileMap) (files_new : Option
   pub plan : List Cut
   pub left : Module
   -- the words name the manifest, which names the module, the entry and its arguments
-  pub command : command_of words ≡ Some (manifest, outdir)
+  pub command : command_of words ≡ Some (Winnow manifest outdir)
   pub names : NamesModule files manifest file entry args
   -- the original is what the module's text spells
   pub held : Reads files file entry args original place

@@ -1,12 +1,14 @@
 pub mod Keeping
+pub mod Checkings
+pub mod Counts
 pub mod Lines
 pub mod Manifests
 pub mod Names
 pub mod Outcome
 pub mod Printing
 pub mod Program
-pub mod Reading
 pub mod Steps
 pub mod Winnowings
+pub mod Told
 pub mod Words
 pub mod Entering

@@ -1,18 +1,28 @@
 -- The lines that the program prints.
-use Rattle.std.specs.Prelude.{ℕ, List, [], ◌∷◌, ◌++◌, codes, Result, Ok, Err}
+use Rattle.std.specs.Prelude.{◌≡◌, ℕ, List, [], ◌∷◌, ◌++◌, codes, Option, None, Some, Result, Ok, Err}
 use Rattle.std.specs.Fmt.{decimal}
 use Rattle.occam_base.specs.declared.code.Code.{Code}
 use Rattle.occam_base.specs.declared.code.Code.TheVariants as code
 use Rattle.manifest.specs.Manifest.{key_word}
-use Rattle.occam_tool.specs.declared.job.Detail.{Detail}
-use Rattle.occam_tool.specs.declared.job.Detail.TheVariants as detail
-use Rattle.occam_tool.specs.declared.job.Refusal.{Refusal}
+use Rattle.program_loader.specs.declared.refusal.Detail.{Detail}
+use Rattle.program_loader.specs.declared.refusal.Detail.TheVariants as detail
+use Rattle.program_loader.specs.declared.refusal.Refusal.{Refusal}
 use Rattle.occam_tool.specs.declared.job.Report.{Report}
+use Rattle.occam_tool.specs.declared.job.Checked.{Checked}
 
 -- done modules=M originals=A clones=C globals=G instructions=I before=B
 abbrev pub report_line : Report → List ℕ
 report_line r = codes "done modules=" ++ (decimal r.modules ++ (codes " originals=" ++ (decimal r.originals ++ (codes " clones=" ++ (decimal r.clones
     ++ (codes " globals=" ++ (decimal r.globals ++ (codes " instructions=" ++ (decimal r.instructions ++ (codes " before=" ++ (decimal r.before ++ codes "\n")))))))))))
+
+-- a word, and a count behind it
+abbrev pub count_text : List ℕ → ℕ → List ℕ
+count_text word count = word ++ decimal count
+
+-- ok modules=M functions=F globals=G instructions=I
+abbrev pub checked_line : Checked → List ℕ
+checked_line c =
+    (((count_text (codes "ok modules=") c.modules ++ count_text (codes " functions=") c.functions) ++ count_text (codes " globals=") c.globals) ++ count_text (codes " instructions=") c.instructions) ++ 10 ∷ []
 
 -- the words of a refusal
 abbrev pub refusal_word : Code → List ℕ
@@ -54,10 +64,21 @@ detail_text (detail.Key key) = 32 ∷ key_word key
 abbrev pub refusal_line : Refusal → List ℕ
 refusal_line r = codes "refused " ++ (refusal_word r.code ++ (detail_text r.detail ++ codes "\n"))
 
-abbrev pub answer_line : Result Report Refusal → List ℕ
-answer_line (Ok report) = report_line report
-answer_line (Err refusal) = refusal_line refusal
+-- the line of what `winnow` answers
+abbrev pub winnow_line : Result Report Refusal → List ℕ
+winnow_line (Ok report) = report_line report
+winnow_line (Err refusal) = refusal_line refusal
 
-abbrev pub answer_code : Result Report Refusal → Code
-answer_code (Ok report) = code.Done
+-- the line of what `check` answers
+abbrev pub check_line : Result Checked Refusal → List ℕ
+check_line (Ok counts) = checked_line counts
+check_line (Err refusal) = refusal_line refusal
+
+abbrev pub answer_code : {X : Type 0} → Result X Refusal → Code
+answer_code (Ok x) = code.Done
 answer_code (Err refusal) = refusal.code
+
+-- the sink, where it tells, took just this more
+abbrev pub TakesLine : Option (List ℕ) → Option (List ℕ) → List ℕ → Type 0
+TakesLine None new line = Unit {0}
+TakesLine (Some taken) new line = new ≡ Some (taken ++ line)

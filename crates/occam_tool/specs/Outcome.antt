@@ -14,18 +14,15 @@ use Rattle.straight_plan.specs.declared.cut.Ask.{Ask}
 use Rattle.straight_plan.specs.declared.cut.Cut.{Cut}
 use Rattle.straight_plan.specs.Asked.{root}
 use Rattle.straight_plan.specs.Left.{AreTooMany, IsTooMuch, IsPlanned, left_module, originals, clones}
-use Rattle.occam_tool.specs.declared.job.Detail.{Detail}
-use Rattle.occam_tool.specs.declared.job.Detail.TheVariants as detail
-use Rattle.occam_tool.specs.declared.job.Refusal.{Refusal}
+use Rattle.program_loader.specs.declared.refusal.Detail.TheVariants as detail
+use Rattle.program_loader.specs.declared.refusal.Refusal.{Refusal}
+use Rattle.program_loader.specs.Refusing.{refusal}
 use Rattle.occam_tool.specs.declared.job.Report.{Report}
 use Rattle.occam_tool.specs.Manifests.{IsSingleManifest}
 
 -- The manifest's file is held, and names this module, this entry and its arguments.
 abbrev pub NamesModule : FileMap → List ℕ → List ℕ → List ℕ → List Known → Type 0
 NamesModule files manifest file entry args = (text : List ℕ) × (file_of files manifest ≡ Some text) × IsSingleManifest text file entry args
-
-abbrev pub refusal : Code → Detail → Refusal
-refusal c d = record { code = c; detail = d }
 
 -- Why a manifest is refused.
 pub data RefusesManifest (files : FileMap) (manifest : List ℕ) (r : Refusal) : Type 0 where

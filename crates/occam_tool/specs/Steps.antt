@@ -1,7 +1,6 @@
 -- What the steps of winnowing answer over the files of a shelf, where it tells them.
-use Rattle.std.specs.Prelude.{◌≡◌, ◌≢◌, ◌⊎◌, ℕ, ◌≤◌, true, List, length, Option, Some, None, Result, Ok, Err}
+use Rattle.std.specs.Prelude.{◌≡◌, ◌⊎◌, ℕ, true, List, length, Option, Some, None, Result, Ok, Err}
 use Rattle.std.specs.FinMap as map
-use Rattle.occam_base.specs.Counts.{Rose}
 use Rattle.occam_base.specs.declared.code.Code.{Code}
 use Rattle.occam_base.specs.declared.code.Code.TheVariants as code
 use Rattle.occam_base.specs.Files.{FileMap, file_of}
@@ -15,7 +14,7 @@ use Rattle.name_table.specs.Places.{place_among}
 use Rattle.straight_plan.specs.declared.cut.Ask.{Ask}
 use Rattle.straight_plan.specs.declared.cut.Cut.{Cut}
 use Rattle.straight_plan.specs.Left.{AreTooMany, IsTooMuch, IsPlanned, left_module}
-use Rattle.occam_tool.specs.declared.job.Refusal.{Refusal}
+use Rattle.program_loader.specs.declared.refusal.Refusal.{Refusal}
 use Rattle.occam_tool.specs.declared.plan.Plan.{Plan}
 use Rattle.occam_tool.specs.declared.left.Left.{Left}
 use Rattle.occam_tool.specs.Outcome.{NamesModule, RefusesManifest, RefusesModule, start_of, is_free, report_of, output_name}
@@ -31,19 +30,6 @@ abbrev pub ModuleGives : Option FileMap → Plan → Result Module Refusal → T
 ModuleGives None plan answer = Unit {0}
 ModuleGives (Some files) plan (Ok m) = (text : List ℕ) × (file_of files plan.file ≡ Some text) × IsStraightForm text plan.entry (length plan.args) m
 ModuleGives (Some files) plan (Err r) = (is_free r.code ≡ true) ⊎ RefusesModule files plan.file plan.entry plan.args r
-
--- A reading step leaves what is kept, and its count of faults rose where it says so.
-pub record ReadsAlone (ended : Option Code) (files_old files_new : Option FileMap) (reads_old reads_new puts_old puts_new : ℕ) : Type 0 where
-  pub files : files_new ≡ files_old
-  pub failed : ended ≡ Some code.ReadFault → Rose reads_old reads_new
-  pub quiet : ended ≢ Some code.ReadFault → ended ≢ Some code.OutOfMemory → reads_new ≡ reads_old
-  pub never_falls : reads_old ≤ reads_new
-  pub puts : puts_new ≡ puts_old
-
--- the code of a refusal, and none of an answer
-abbrev pub code_of : {X : Type 0} → Result X Refusal → Option Code
-code_of (Ok x) = None
-code_of (Err r) = Some r.code
 
 -- The text and the report of what a plan leaves.
 pub record IsWrittenLeft (m : Module) (start : Ask) (plan : List Cut) (left : Left) : Type 0 where

@@ -6,6 +6,7 @@ ghost use Rattle.occam_tool.specs.Outcome.{Outputs};
 ghost use Rattle.occam_tool.specs.Program.{IsOutcome};
 
 use manifest::text_has_one_answer;
+use program_loader::files_give_one_answer;
 use straight_fold::{limits_are_apart, plans_are_one};
 use straight_reader::the_form_is_straight;
 
@@ -17,6 +18,7 @@ pub fn outcome_is_one()
 {
     the_form_is_straight();
     text_has_one_answer();
+    files_give_one_answer();
     plans_are_one();
     limits_are_apart();
 }

@@ -2,6 +2,7 @@
 #![tactic(auto)]
 
 mod arguments;
+mod checking;
 mod counting;
 mod entering;
 mod job;
@@ -11,14 +12,16 @@ mod line;
 mod path;
 mod plan;
 mod print;
-mod reading;
 mod refusing;
+mod tally;
 mod telling;
 mod top;
 mod winnowing;
 mod words;
 
-pub use job::{Detail, Job, Refusal, Report};
+pub use checking::check;
+pub use job::{Checked, Job, Report};
 pub use laws::outcome_is_one;
+pub use program_loader::{Detail, Refusal};
 pub use top::tool;
 pub use winnowing::winnow;

@@ -1,9 +1,9 @@
 //! The lines that the program prints.
 ghost use Rattle.std.specs.Prelude.{◌≡◌, ◌++◌, ◌∷◌, IfOk, OnOk};
 ghost use Rattle.std.specs.Fmt.{decimal};
-ghost use Rattle.occam_tool.specs.Lines.{report_line as line_of_report, refusal_line as line_of_refusal, refusal_word as word_of, detail_text as text_of_detail};
+ghost use Rattle.occam_tool.specs.Lines.{report_line as line_of_report, checked_line as line_of_checked, refusal_line as line_of_refusal, refusal_word as word_of, detail_text as text_of_detail};
 
-use crate::{Detail, Refusal, Report};
+use crate::{Checked, Detail, Refusal, Report};
 use ir_types::{Bytes, OutOfMemory};
 use manifest::key_name;
 use occam_base::Code;
@@ -20,6 +20,19 @@ pub fn report_line(alloc: Global, report: &Report) -> Result<Bytes, OutOfMemory>
     append_count(alloc, &mut line, b" globals=", report.globals)?;
     append_count(alloc, &mut line, b" instructions=", report.instructions)?;
     append_count(alloc, &mut line, b" before=", report.before)?;
+    line.push(b'\n')?;
+    Ok(line)
+}
+
+/// The line of the counts of a checked program, with its line feed.
+pub fn checked_line(alloc: Global, counts: &Checked) -> Result<Bytes, OutOfMemory>
+    ensures { IfOk result (λ line. line ≡ line_of_checked counts.now) }
+{
+    let mut line = Bytes::new(alloc);
+    append_count(alloc, &mut line, b"ok modules=", counts.modules)?;
+    append_count(alloc, &mut line, b" functions=", counts.functions)?;
+    append_count(alloc, &mut line, b" globals=", counts.globals)?;
+    append_count(alloc, &mut line, b" instructions=", counts.instructions)?;
     line.push(b'\n')?;
     Ok(line)
 }

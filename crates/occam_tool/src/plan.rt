@@ -1,17 +1,18 @@
 //! Reading the manifest: which module, which entry, and with which arguments.
 ghost use Rattle.std.specs.Prelude.{◌≡◌, ◌≤◌, length, IsUtf8, IfOk, IfSome, MatchOption};
-ghost use Rattle.occam_tool.specs.Steps.{PlanGives, ReadsAlone, code_of, CanStop};
+ghost use Rattle.program_loader.specs.Refusing.{ReadsAlone, code_of};
+ghost use Rattle.occam_tool.specs.Steps.{PlanGives, CanStop};
 ghost use Rattle.occam_tool.specs.Entering.{AreWords};
 ghost use Rattle.occam_tool.specs.Manifests.{PlanOf, IsSingle, IsNoSingle};
 
 use crate::Refusal;
 use crate::arguments::known_arguments;
 use crate::path::as_text;
-use crate::reading::{Stop, read_whole};
 use crate::refusing::{not_of_form, of_file, out_of_memory};
 use ir_types::{Bytes, Known, OutOfMemory};
 use manifest::{Manifest, ManifestFault, read_manifest};
 use occam_base::{Code, Shelf};
+use program_loader::{Stop, read_whole};
 use sqlite_items::Items as List;
 use std::alloc::Global;
 

@@ -1,6 +1,6 @@
 //! Refusals.
 ghost use Rattle.std.specs.Prelude.{◌≡◌, ◌⊎◌};
-ghost use Rattle.occam_tool.specs.Outcome.{refusal};
+ghost use Rattle.program_loader.specs.Refusing.{refusal};
 ghost use Rattle.occam_tool.specs.Steps.{fault_code};
 
 use crate::{Detail, Refusal};

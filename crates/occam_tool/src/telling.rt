@@ -1,12 +1,11 @@
 //! Printing the line that tells how a command ended.
 ghost use Rattle.std.specs.Prelude.{◌≡◌, ◌≢◌, ◌⊎◌};
 ghost use Rattle.occam_base.specs.Counts.{Rose};
-ghost use Rattle.occam_tool.specs.Lines.{report_line as line_of_report, refusal_line as line_of_refusal};
-ghost use Rattle.occam_tool.specs.Program.{TakesLine};
+ghost use Rattle.occam_tool.specs.Lines.{report_line as line_of_report, checked_line as line_of_checked, refusal_line as line_of_refusal, TakesLine};
 
-use crate::line::{refusal_line, report_line};
+use crate::line::{checked_line, refusal_line, report_line};
 use crate::print::print_text;
-use crate::{Refusal, Report};
+use crate::{Checked, Refusal, Report};
 use ir_types::OutOfMemory;
 use occam_base::{Code, Fault, Sink};
 use std::alloc::Global;
@@ -35,11 +34,31 @@ pub fn report_done<O: Sink>(alloc: Global, out: &mut O, report: &Report) -> Code
     ensures taken { result ≡ Code.Done → TakesLine (O.taken out.old) (O.taken out.new) (line_of_report report.now) }
     ensures failed { result ≡ Code.PrintFault → Rose (O.faults out.old) (O.faults out.new) }
 {
-    let line = match report_line(alloc, report) {
-        Ok(line) => line,
-        Err(OutOfMemory) => return refuse_memory(out),
-    };
-    match print_text(out, line.as_slice()) {
+    match report_line(alloc, report) {
+        Ok(line) => print_done(out, line.as_slice()),
+        Err(OutOfMemory) => refuse_memory(out),
+    }
+}
+
+/// Prints the line of the counts of a checked program.
+pub fn check_done<O: Sink>(alloc: Global, out: &mut O, counts: &Checked) -> Code
+    ensures code { (result ≡ Code.Done) ⊎ ((result ≡ Code.OutOfMemory) ⊎ (result ≡ Code.PrintFault)) }
+    ensures taken { result ≡ Code.Done → TakesLine (O.taken out.old) (O.taken out.new) (line_of_checked counts.now) }
+    ensures failed { result ≡ Code.PrintFault → Rose (O.faults out.old) (O.faults out.new) }
+{
+    match checked_line(alloc, counts) {
+        Ok(line) => print_done(out, line.as_slice()),
+        Err(OutOfMemory) => refuse_memory(out),
+    }
+}
+
+// Prints the line of an answer.
+fn print_done<O: Sink>(out: &mut O, line: &[u8]) -> Code
+    ensures code { (result ≡ Code.Done) ⊎ ((result ≡ Code.OutOfMemory) ⊎ (result ≡ Code.PrintFault)) }
+    ensures taken { result ≡ Code.Done → TakesLine (O.taken out.old) (O.taken out.new) line.now }
+    ensures failed { result ≡ Code.PrintFault → Rose (O.faults out.old) (O.faults out.new) }
+{
+    match print_text(out, line) {
         Ok(()) => Code::Done,
         Err(Fault::Failed) => Code::PrintFault,
         Err(Fault::OutOfMemory) => refuse_memory(out),

@@ -1,14 +1,19 @@
 //! The top call.
-ghost use Rattle.std.specs.Prelude.{◌≡◌, ◌≢◌, ◌⊎◌, ◌≤◌, false, None, Some, map, string_bytes, IfSome, IfOk, IsUtf8};
+ghost use Rattle.std.specs.Prelude.{◌≡◌, ◌≢◌, ◌⊎◌, false, None, map, string_bytes, IfSome, IfOk};
 ghost use Rattle.occam_base.specs.Counts.{Rose};
-ghost use Rattle.occam_tool.specs.Words.{command_of as command_of_words};
+ghost use Rattle.occam_tool.specs.Words.{command_of as command_of_words, IsWinnow, IsCheck};
 ghost use Rattle.occam_tool.specs.Outcome.{is_free};
-ghost use Rattle.occam_tool.specs.Program.{Ends, CanExit, TakesRefusal};
+ghost use Rattle.occam_tool.specs.Program.{Ends, CanExit, CanWinnow, CanCheck, TakesRefusal, NamesUnread};
+ghost use Rattle.program_loader.specs.declared.refusal.Refusal.{Refusal as RefusalValue};
+ghost use Rattle.program_loader.specs.Loading.{IsUnread};
+ghost use Rattle.occam_tool.specs.Lines.{TakesLine, refusal_line as line_of_refusal};
+ghost use Rattle.occam_tool.specs.Checkings.{CheckEnds};
 ghost use Rattle.occam_tool.specs.Winnowings.{WinnowEnds};
 ghost use Rattle.occam_tool.specs.Keeping.{Keeps};
 
+use crate::checking::check;
 use crate::refusing::out_of_memory;
-use crate::telling::{refuse, report_done};
+use crate::telling::{check_done, refuse, report_done};
 use crate::winnowing::winnow;
 use crate::words::{Command, command_of};
 use crate::{Detail, Job, Refusal};
@@ -26,36 +31,45 @@ use straight_reader::the_form_is_straight;
 
 /// Does what the words of the command line ask for, and prints one line to the sink.
 ///
-/// `winnow MANIFEST OUTDIR` winnows the program of the manifest. Every other list of words is `Usage`. The
-/// program's own name isn't among the words. `OutOfMemory` may come anywhere; every other status has its cause
-/// in a clause.
+/// `winnow MANIFEST OUTDIR` winnows the program of the manifest; until whole programs are winnowed, that is one module of
+/// straight-line functions. `check MANIFEST` reads, checks and links the program of the manifest, and counts what it
+/// defines. Every other list of words is `Usage`. The program's own name isn't among the words. `OutOfMemory` may come
+/// anywhere; every other status has its cause in a clause.
 pub fn tool<R: Threads + Sync, S: Shelf, I: Source, O: Sink, G: Gate>(
     rt: &R,
     alloc: Global,
     words: &[String],
     shelf: &mut S,
-    _input: &mut I,
+    input: &mut I,
     out: &mut O,
     gate: &G,
 ) -> Code
     // Usage comes exactly where the words are no command.
     ensures usage_only { result ≡ Code.Usage → command_of_words (map (λ w. string_bytes w) words.now) ≡ None }
     ensures usage { command_of_words (map (λ w. string_bytes w) words.now) ≡ None → (result ≡ Code.Usage) ⊎ (result ≡ Code.OutOfMemory) }
-    ensures statuses { CanExit result }
+    ensures statuses { CanExit (command_of_words (map (λ w. string_bytes w) words.now)) result }
 
     // Where the shelf tells its files, a status other than want of memory and a fault is that of the outcome of
     // the words over the files at entry, and so are the files at exit and the line.
     ensures outcome { is_free result ≡ false → IfSome (S.files shelf.old) (λ files.
         Ends (map (λ w. string_bytes w) words.now) files (S.files shelf.new) (O.taken out.old) (O.taken out.new) (O.faults out.old) (O.faults out.new) result) }
 
-    // On Done the written text spells what is left, and no other module, and that means what the original means.
-    ensures kept { result ≡ Code.Done → IfSome (S.files shelf.old) (λ files.
+    // On Done of `winnow` the written text spells what is left, and no other module, and that means what the original means.
+    ensures kept { IsWinnow (command_of_words (map (λ w. string_bytes w) words.now)) → result ≡ Code.Done → IfSome (S.files shelf.old) (λ files.
         Keeps (map (λ w. string_bytes w) words.now) files (S.files shelf.new)) }
 
     // A fault is answered only where its count rose.
     ensures read_fault { result ≡ Code.ReadFault → Rose (S.read_faults shelf.old) (S.read_faults shelf.new) }
     ensures write_fault { result ≡ Code.WriteFault → Rose (S.put_faults shelf.old) (S.put_faults shelf.new) }
     ensures print_fault { result ≡ Code.PrintFault → Rose (O.faults out.old) (O.faults out.new) }
+
+    // `check` changes no file, told or not, and a fault of reading names the file.
+    ensures check_keeps { IsCheck (command_of_words (map (λ w. string_bytes w) words.now)) → S.files shelf.new ≡ S.files shelf.old }
+    ensures check_puts { IsCheck (command_of_words (map (λ w. string_bytes w) words.now)) → S.put_faults shelf.new ≡ S.put_faults shelf.old }
+    ensures check_unread { result ≡ Code.ReadFault → (Rose (O.faults out.old) (O.faults out.new) → ⊥) → IfSome (S.files shelf.old) (λ files.
+        NamesUnread (command_of_words (map (λ w. string_bytes w) words.now)) files (O.taken out.old) (O.taken out.new)) }
+    // No command touches the source.
+    ensures input { input.new ≡ input.old }
 
     // No file changes with a refusal but that of a write.
     ensures unchanged { result ≢ Code.Done → result ≢ Code.WriteFault → result ≢ Code.PrintFault → result ≢ Code.OutOfMemory
@@ -74,7 +88,10 @@ pub fn tool<R: Threads + Sync, S: Shelf, I: Source, O: Sink, G: Gate>(
     meaning_is_kept();
     run_goes_on();
     match command_of(words) {
-        Some(command) => run_winnow(rt, alloc, command, shelf, out, gate),
+        Some(Command::Winnow { manifest, outdir }) => run_winnow(
+            rt, alloc, manifest, outdir, shelf, out, gate,
+        ),
+        Some(Command::Check { manifest }) => run_check(rt, alloc, manifest, shelf, out),
         None => refuse(
             alloc,
             out,
@@ -90,15 +107,16 @@ pub fn tool<R: Threads + Sync, S: Shelf, I: Source, O: Sink, G: Gate>(
 fn run_winnow<R: Threads + Sync, S: Shelf, O: Sink, G: Gate>(
     rt: &R,
     alloc: Global,
-    command: Command<'_>,
+    manifest: &str,
+    outdir: &str,
     shelf: &mut S,
     out: &mut O,
     gate: &G,
 ) -> Code
     ensures not_usage { result ≢ Code.Usage }
-    ensures statuses { CanExit result }
+    ensures statuses { CanWinnow result }
     ensures outcome { is_free result ≡ false → IfSome (S.files shelf.old) (λ files.
-        WinnowEnds files (S.files shelf.new) command.entry.manifest.now command.entry.outdir.now (O.taken out.old) (O.taken out.new) (O.faults out.old) (O.faults out.new) result) }
+        WinnowEnds files (S.files shelf.new) manifest.now outdir.now (O.taken out.old) (O.taken out.new) (O.faults out.old) (O.faults out.new) result) }
     ensures read_fault { result ≡ Code.ReadFault → Rose (S.read_faults shelf.old) (S.read_faults shelf.new) }
     ensures write_fault { result ≡ Code.WriteFault → Rose (S.put_faults shelf.old) (S.put_faults shelf.new) }
     ensures print_fault { result ≡ Code.PrintFault → Rose (O.faults out.old) (O.faults out.new) }
@@ -107,7 +125,7 @@ fn run_winnow<R: Threads + Sync, S: Shelf, O: Sink, G: Gate>(
     ensures refusal { result ≢ Code.Done → result ≢ Code.PrintFault → result ≢ Code.OutOfMemory → (Rose (O.faults out.old) (O.faults out.new) → ⊥)
         → TakesRefusal (O.taken out.old) (O.taken out.new) result }
 {
-    let job = match job_of(alloc, command) {
+    let job = match job_of(alloc, manifest, outdir) {
         Ok(job) => job,
         Err(OutOfMemory) => return refuse(alloc, out, &out_of_memory()),
     };
@@ -117,12 +135,43 @@ fn run_winnow<R: Threads + Sync, S: Shelf, O: Sink, G: Gate>(
     }
 }
 
-// The job of a command, on one thread.
-fn job_of(alloc: Global, command: Command<'_>) -> Result<Job, OutOfMemory>
-    ensures { IfOk result (λ job. (job.manifest ≡ command.entry.manifest.now) × (job.outdir ≡ command.entry.outdir.now)) }
+// Checks, and prints the answer's line.
+fn run_check<R: Threads + Sync, S: Shelf, O: Sink>(
+    rt: &R,
+    alloc: Global,
+    manifest: &str,
+    shelf: &mut S,
+    out: &mut O,
+) -> Code
+    ensures not_usage { result ≢ Code.Usage }
+    ensures statuses { CanCheck result }
+    ensures outcome { is_free result ≡ false → IfSome (S.files shelf.old) (λ files.
+        CheckEnds files (S.files shelf.new) manifest.now (O.taken out.old) (O.taken out.new) (O.faults out.old) (O.faults out.new) result) }
+    ensures read_fault { result ≡ Code.ReadFault → Rose (S.read_faults shelf.old) (S.read_faults shelf.new) }
+    ensures unread { result ≡ Code.ReadFault → (Rose (O.faults out.old) (O.faults out.new) → ⊥) → IfSome (S.files shelf.old) (λ files.
+        (r : RefusalValue) × IsUnread files manifest.now r × TakesLine (O.taken out.old) (O.taken out.new) (line_of_refusal r)) }
+    ensures print_fault { result ≡ Code.PrintFault → Rose (O.faults out.old) (O.faults out.new) }
+    ensures files { S.files shelf.new ≡ S.files shelf.old }
+    ensures puts { S.put_faults shelf.new ≡ S.put_faults shelf.old }
+    ensures refusal { result ≢ Code.Done → result ≢ Code.PrintFault → result ≢ Code.OutOfMemory → (Rose (O.faults out.old) (O.faults out.new) → ⊥)
+        → TakesRefusal (O.taken out.old) (O.taken out.new) result }
 {
-    let manifest = Bytes::from_slice(alloc, command.manifest.as_bytes())?;
-    let outdir = Bytes::from_slice(alloc, command.outdir.as_bytes())?;
+    let name = match Bytes::from_slice(alloc, manifest.as_bytes()) {
+        Ok(name) => name,
+        Err(OutOfMemory) => return refuse(alloc, out, &out_of_memory()),
+    };
+    match check(rt, alloc, &name, shelf) {
+        Ok(counts) => check_done(alloc, out, &counts),
+        Err(refusal) => refuse(alloc, out, &refusal),
+    }
+}
+
+// The job of `winnow`, on one thread.
+fn job_of(alloc: Global, manifest: &str, outdir: &str) -> Result<Job, OutOfMemory>
+    ensures { IfOk result (λ job. (job.manifest ≡ manifest.now) × (job.outdir ≡ outdir.now)) }
+{
+    let manifest = Bytes::from_slice(alloc, manifest.as_bytes())?;
+    let outdir = Bytes::from_slice(alloc, outdir.as_bytes())?;
     Ok(Job {
         manifest,
         outdir,

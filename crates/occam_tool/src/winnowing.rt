@@ -3,7 +3,8 @@ ghost use Rattle.std.specs.Prelude.{◌≡◌, ◌≢◌, ◌⊎◌, false, IsUt
 ghost use Rattle.occam_base.specs.Counts.{Rose};
 ghost use Rattle.occam_tool.specs.Lines.{answer_code};
 ghost use Rattle.occam_tool.specs.Outcome.{Leaves, is_free};
-ghost use Rattle.occam_tool.specs.Steps.{PutGives, code_of, CanEnd};
+ghost use Rattle.program_loader.specs.Refusing.{code_of};
+ghost use Rattle.occam_tool.specs.Steps.{PutGives, CanEnd};
 
 use crate::left::{leave, read_module};
 use crate::path::{as_text, path_of};

@@ -9,6 +9,9 @@ laws c = record {
   not_many = c.limits_are_apart.ensures.not_many;
   not_much = c.limits_are_apart.ensures.not_much;
   not_both = c.limits_are_apart.ensures.not_both;
+  one_loaded = c.files_give_one_answer.ensures.modules;
+  one_refusal = c.files_give_one_answer.ensures.refusal;
+  not_refused = c.files_give_one_answer.ensures.apart;
 }
 
 pub returns-clause-status : goal.returns-clause-status

@@ -1,14 +1,15 @@
-use Rattle.std.proofs.Common.{map, string_bytes, sym, ap}
+use Rattle.std.proofs.Common.{◌∙◌, Some, map, string_bytes, sym, ap}
+use Rattle.occam_tool.specs.Told.{told}
 use Rattle.occam_tool.specs.Outcome.{is_free}
-use Rattle.occam_tool.proofs.Outcomes.{told_command, told_usage, usage_taken}
-use Rattle.occam_tool.proofs.KeptPrograms.{Laws, kept_command, usage_not_done}
+use Rattle.occam_tool.proofs.Outcomes.{told_winnow, told_check, told_usage, usage_taken}
+use Rattle.occam_tool.proofs.KeptPrograms.{Laws, kept_command}
 use Rattle.occam_tool.proofs.top.tool.Goals as goal
 
-pub returns-in-Some-clause-outcome : goal.returns-in-Some-clause-outcome
-returns-in-Some-clause-outcome g c = λ f.
-    told_command (g.S.Shelf.files c.args.shelf.now) (g.S.Shelf.files c.run_winnow.new.shelf) (map (λ w. string_bytes w) c.args.words.now) c.in-Some.command.manifest.now c.in-Some.command.outdir.now
+pub returns-in-Some-Winnow-clause-outcome : goal.returns-in-Some-Winnow-clause-outcome
+returns-in-Some-Winnow-clause-outcome g c = λ f.
+    told_winnow (g.S.Shelf.files c.args.shelf.now) (g.S.Shelf.files c.run_winnow.new.shelf) (map (λ w. string_bytes w) c.args.words.now) c.in-Some-Winnow.manifest.now c.in-Some-Winnow.outdir.now
     (g.O.Sink.taken c.args.out.now) (g.O.Sink.taken c.run_winnow.new.out) (g.O.Sink.faults c.args.out.now) (g.O.Sink.faults c.run_winnow.new.out) c.run_winnow.result
-    (sym c.in-Some.ensures) (c.run_winnow.ensures.outcome f)
+    (sym c.in-Some-Winnow.ensures ∙ ap (λ h. Some (told h)) c.in-Some-Winnow.field-0-is) (c.run_winnow.ensures.outcome f)
 
 pub returns-in-None-clause-outcome : goal.returns-in-None-clause-outcome
 returns-in-None-clause-outcome g c = λ f.
@@ -20,8 +21,8 @@ pub returns-in-None-clause-refusal : goal.returns-in-None-clause-refusal
 returns-in-None-clause-refusal g c = λ a b some quiet.
     usage_taken (g.O.Sink.taken c.args.out.now) (g.O.Sink.taken c.refuse.new.out) c.refuse.result c.refuse.ensures.code some (c.refuse.ensures.taken some quiet)
 
-pub returns-in-Some-clause-kept : goal.returns-in-Some-clause-kept
-returns-in-Some-clause-kept g c = λ done.
+pub returns-in-Some-Winnow-clause-kept : goal.returns-in-Some-Winnow-clause-kept
+returns-in-Some-Winnow-clause-kept g c = λ winnows done.
     let laws : Laws = record {
       straight = c.the_form_is_straight.ensures.straight;
       entered = c.the_form_is_straight.ensures.entered;
@@ -38,9 +39,12 @@ returns-in-Some-clause-kept g c = λ done.
       goes_on = c.run_goes_on.ensures.run;
       never_undefined = c.run_goes_on.ensures.phase;
     } in
-    kept_command laws (g.S.Shelf.files c.args.shelf.now) (g.S.Shelf.files c.run_winnow.new.shelf) (map (λ w. string_bytes w) c.args.words.now) c.in-Some.command.manifest.now c.in-Some.command.outdir.now
+    kept_command laws (g.S.Shelf.files c.args.shelf.now) (g.S.Shelf.files c.run_winnow.new.shelf) (map (λ w. string_bytes w) c.args.words.now) c.in-Some-Winnow.manifest.now c.in-Some-Winnow.outdir.now
     (g.O.Sink.taken c.args.out.now) (g.O.Sink.taken c.run_winnow.new.out) (g.O.Sink.faults c.args.out.now) (g.O.Sink.faults c.run_winnow.new.out) c.run_winnow.result
-    (sym c.in-Some.ensures) (c.run_winnow.ensures.outcome (ap is_free done)) done
+    (sym c.in-Some-Winnow.ensures ∙ ap (λ h. Some (told h)) c.in-Some-Winnow.field-0-is) (c.run_winnow.ensures.outcome (ap is_free done)) done
 
-pub returns-in-None-clause-kept : goal.returns-in-None-clause-kept
-returns-in-None-clause-kept g c = λ done. usage_not_done c.refuse.result c.refuse.ensures.code done
+pub returns-in-Some-Check-clause-outcome : goal.returns-in-Some-Check-clause-outcome
+returns-in-Some-Check-clause-outcome g c = λ f.
+    told_check (g.S.Shelf.files c.args.shelf.now) (g.S.Shelf.files c.run_check.new.shelf) (map (λ w. string_bytes w) c.args.words.now) c.in-Some-Check.manifest.now
+    (g.O.Sink.taken c.args.out.now) (g.O.Sink.taken c.run_check.new.out) (g.O.Sink.faults c.args.out.now) (g.O.Sink.faults c.run_check.new.out) c.run_check.result
+    (sym c.in-Some-Check.ensures ∙ ap (λ h. Some (told h)) c.in-Some-Check.field-0-is) (c.run_check.ensures.outcome f)
