@@ -1,0 +1,12 @@
+pub mod Lists
+pub mod Reaching
+pub mod Searching
+pub mod Closing
+pub mod Leaving
+pub mod Counting
+pub mod Starting
+pub mod Steps
+pub mod Numbering
+pub mod Rows
+pub mod Calling
+pub mod Cycling

@@ -1,0 +1,4 @@
+pub mod Cycles
+pub mod Edges
+pub mod Mirrors
+pub mod Searching
