@@ -1,7 +1,7 @@
 -- A blank assignment, made block by block.
 use Rattle.std.proofs.Common.{◌≡◌, ◌∙◌, ℕ, zero, suc, ◌+◌, ◌<◌, ◌≤◌, ◌⊎◌, inl, inr, Bool, true, false, List, [], ◌∷◌, ◌++◌, Some, length, map, drop, get_or, refl, sym, ap, subst, arith, length-append}
 use Rattle.std.specs.Prelude.{slice_get, ◌==◌}
-use Rattle.std.proofs.lemmas.List.{drop_all, length-map}
+use Rattle.std.proofs.lemmas.List.{drop_all, length-map, length-drop}
 use Rattle.std.proofs.lemmas.Bool.{eqb-true}
 use Rattle.std.proofs.lemmas.Option.{none-some}
 use Rattle.ir_types.proofs.ListSteps.{drop_at, slice_get-append_rest}
@@ -87,6 +87,11 @@ blank_step blocks fact n block facts more edges next row flags then_flags h less
         keeps [] k l = absurd (omega arith)
         keeps (x ∷ xs) zero l = refl
         keeps (x ∷ xs) (suc k) l = keeps xs k (omega arith)
+
+-- one row of edges for each block so far
+pub blank_rows : (blocks : List Block) (fact : Fact) (n : ℕ) (facts : List Fact) (edges : List (List Edge)) (flags : List Bool) → n ≤ length blocks → IsBlankTo blocks fact n facts edges flags → length edges ≡ n
+blank_rows blocks fact n facts edges flags less h =
+    omega (arith, less, ap length h.edges_are, length-append edges (map blank_edges (drop n blocks)), length-map (drop n blocks) blank_edges, length-map blocks blank_edges, length-drop n blocks)
 
 pub blank_end : (blocks : List Block) (fact : Fact) (n : ℕ) (facts : List Fact) (edges : List (List Edge)) (flags : List Bool) → length blocks ≤ n → IsBlankTo blocks fact n facts edges flags → (record { facts = facts; edges = edges }) ≡ blank blocks fact
 blank_end blocks fact n facts edges flags all h =

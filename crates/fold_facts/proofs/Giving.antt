@@ -186,3 +186,9 @@ facts_end blocks a b facts n all h = record {
 -- the facts of edges that are reached don't change
 pub edges_kept : (blocks : List Block) (a b : Assigned) (edges : List (ℕ × ℕ)) → b.edges ≡ a.edges → HasEdges blocks a edges → HasEdges blocks b edges
 edges_kept blocks a b edges same h = subst (λ es. HasEdges blocks (record { facts = b.facts; edges = es }) edges) (sym same) h
+
+-- facts that are put change no edges
+pub edges_stay : (blocks slice : List Block) (a b : Assigned) (listed : List (ℕ × ℕ)) → slice ≡ blocks → b.edges ≡ a.edges → HasEdges slice a listed → HasEdges blocks b listed
+edges_stay blocks slice a b listed same edges h =
+    let here : HasEdges blocks a listed = subst (λ (bs : List Block). HasEdges bs a listed) same h in
+    subst (λ (es : List (List Edge)). HasEdges blocks (record { facts = b.facts; edges = es }) listed) (sym edges) here

@@ -11,3 +11,8 @@ pub mod Rising
 pub mod Visits
 pub mod Settling
 pub mod Suiting
+pub mod Paths
+pub mod Valued
+pub mod Arriving
+pub mod Reached
+pub mod Indexing

@@ -10,3 +10,4 @@ pub mod Phis
 pub mod Places
 pub mod Raising
 pub mod Terminators
+pub mod Entering

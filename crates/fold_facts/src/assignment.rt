@@ -1,14 +1,15 @@
 //! Assignments.
 ghost use Rattle.std.specs.Prelude.{◌≡◌, ◌<◌, ◌++◌, true, false, Some, length, map, slice_get, slice_set, IfSome, IfOk, OnOk, MatchBool, not, if◌then◌else◌};
-ghost use Rattle.std.specs.List.{list_any, filter_map};
+ghost use Rattle.std.specs.List.{filter_map};
 ghost use Rattle.ir_syntax.specs.Results.{result_type, block_results};
 ghost use Rattle.fold_facts.specs.declared.edge.Edge.{Edge};
 ghost use Rattle.fold_facts.specs.Facts.{IsBelow, join as joined};
 ghost use Rattle.fold_facts.specs.Raising.{with_edge, blank as blank_of, blank_edges};
-ghost use Rattle.fold_facts.specs.Assigned.{edges_from, comes_to, enters as entered, is_reached as reached, fact_of as fact_in};
+ghost use Rattle.fold_facts.specs.Assigned.{edges_from, enters as enters_in, is_reached as reached, fact_of as fact_in};
 
 use crate::Fact;
 use crate::edge::Edge;
+use crate::entered::Entered;
 use crate::operands::fact_of;
 use crate::order::{is_below, join};
 use ir_syntax::{Block, Inst};
@@ -23,29 +24,20 @@ pub struct Assignment {
     edges: Vec<List<Edge>>,
     // which blocks are reached
     reached: List<bool>,
+    // from which blocks which are entered
+    entered: Entered,
 }
 
 impl Model for Assignment {
     ghost use Rattle.std.specs.Prelude.{◌≡◌, ℕ, Bool, Some, length, slice_get};
     ghost use Rattle.fold_facts.specs.Assigned.{Assigned, is_reached};
+    ghost use Rattle.fold_facts.specs.Entering.{IsIndexed};
 
     ghost Value = { Assigned };
 
     ghost view = { λ a. record { facts = a.facts; edges = a.edges.items } };
 
-    ghost invariant = { λ a. (length a.reached ≡ length a.edges.items) × ((place : ℕ) (flag : Bool) → slice_get a.reached place ≡ Some flag → flag ≡ is_reached (record { facts = a.facts; edges = a.edges.items }) place) };
-}
-
-/// Whether an edge is reached and goes to the block.
-fn any_comes_to(edges: &[Edge], place: usize) -> bool
-    ensures { result ≡ list_any (comes_to place) edges.now }
-{
-    for edge in edges {
-        if edge.reached && edge.to == place {
-            return true;
-        }
-    }
-    false
+    ghost invariant = { λ a. (length a.reached ≡ length a.edges.items) × ((place : ℕ) (flag : Bool) → slice_get a.reached place ≡ Some flag → flag ≡ is_reached (record { facts = a.facts; edges = a.edges.items }) place) × IsIndexed a.entered a.edges.items };
 }
 
 /// Sets a flag, where there is one at the place.
@@ -105,15 +97,19 @@ impl Assignment {
         let mut facts = List::new(alloc);
         let mut edges = Vec::new(alloc);
         let mut reached = List::new(alloc);
+        let mut entered = Entered::new(alloc);
         for (place, block) in blocks.iter().enumerate() {
+            let row = edges_of(alloc, block)?;
+            entered.list_all(place, row.as_slice())?;
             add_facts(&mut facts, fact, block)?;
-            edges.push(edges_of(alloc, block)?)?;
+            edges.push(row)?;
             reached.push(place == 0)?;
         }
         Ok(Assignment {
             facts,
             edges,
             reached,
+            entered,
         })
     }
 
@@ -158,10 +154,10 @@ impl Assignment {
 
     /// Whether an edge from the one block to the other is reached.
     pub fn enters(&self, from: usize, place: usize) -> bool
-        ensures { result ≡ entered self.now from place }
+        ensures { result ≡ enters_in self.now from place }
     {
-        match self.edges.get(from) {
-            Some(edges) => any_comes_to(edges.as_slice(), place),
+        match self.entered.of(from, place) {
+            Some(is_entered) => is_entered,
             None => false,
         }
     }
@@ -192,6 +188,7 @@ impl Assignment {
     {
         self.edges[from].set(k, Edge { to, reached: true });
         set_flag(&mut self.reached, to);
+        self.entered.enter(from, to);
     }
 
     /// Reaches the k-th edge that leaves the block, and so the block that it goes to. Gives whether that was new. The edge is to

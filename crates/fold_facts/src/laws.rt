@@ -1,12 +1,16 @@
 //! What holds of facts and assignments. These functions do nothing: what they ensure is the law.
 ghost use Rattle.std.specs.Prelude.{◌≡◌, ◌↔◌, ℕ, List, Some, IsTrue, length, slice_get};
+ghost use Rattle.ir_types.specs.declared.scalar.Known.{Known};
 ghost use Rattle.ir_syntax.specs.declared.body.Inst.{Inst};
 ghost use Rattle.ir_syntax.specs.declared.body.Phi.{Phi};
 ghost use Rattle.ir_syntax.specs.declared.body.Term.{Term};
 ghost use Rattle.ir_syntax.specs.declared.body.Block.{Block};
 ghost use Rattle.ir_syntax.specs.declared.item.Func.{Func};
+ghost use Rattle.ir_syntax.specs.Definite.{Defines};
 ghost use Rattle.ir_syntax.specs.Edges.{successors};
+ghost use Rattle.ir_syntax.specs.SoundFunctions.{IsSoundFunction};
 ghost use Rattle.fold_facts.specs.declared.fact.Fact.{Fact};
+ghost use Rattle.fold_facts.specs.declared.fact.Fact.TheVariants.{Unreached};
 ghost use Rattle.fold_facts.specs.Facts.{IsBelow, join};
 ghost use Rattle.fold_facts.specs.Assigned.{Assigned, fact_of, edges_from, IsReachedEdge, is_reached, IsAtMost};
 ghost use Rattle.fold_facts.specs.Operands.{Setting};
@@ -61,4 +65,13 @@ pub fn assignments_have_places()
     ensures facts { (func : Func) (a : Assigned) → IsAssignmentOf func a → length a.facts ≡ length (results_in (blocks_of func)) }
     ensures edges { (func : Func) (a : Assigned) (place : ℕ) (block : Block) → IsAssignmentOf func a
         → slice_get (blocks_of func) place ≡ Some block → length (edges_from a place) ≡ length (successors block.term) }
+{}
+
+/// In the least closed assignment of a function that is formed, typed and definite by itself, no result of a reached block is
+/// Unreached, whatever is known of the parameters. So each phi of a reached block says something, and each use is of a result that
+/// may have a value.
+pub fn results_of_reached_blocks_have_facts()
+    ensures { (func : Func) (known : List Known) (a : Assigned) (place k : ℕ)
+        → IsSoundFunction func → IsAssignmentOf func a → IsLeastClosed (record { known = known }) (blocks_of func) a
+        → IsTrue (is_reached a place) → Defines (blocks_of func) place k → fact_of a.facts k ≡ Unreached → ⊥ }
 {}

@@ -6,6 +6,7 @@ mod arithmetic;
 mod assignment;
 mod closed;
 mod edge;
+mod entered;
 mod fact;
 mod given;
 mod instructions;
@@ -25,7 +26,8 @@ pub use closed::is_closed;
 pub use fact::Fact;
 pub use laws::{
     assignments_are_ordered, assignments_have_places, join_is_least_upper_bound,
-    least_closed_is_one, order_is_partial, what_is_said_rises,
+    least_closed_is_one, order_is_partial, results_of_reached_blocks_have_facts,
+    what_is_said_rises,
 };
 pub use place::Place;
 pub use said::{Edges, Said};
