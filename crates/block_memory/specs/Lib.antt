@@ -1,0 +1,14 @@
+pub mod Accesses
+pub mod Answers
+pub mod Blocks
+pub mod Comparisons
+pub mod Copies
+pub mod Fills
+pub mod InitialBytes
+pub mod Loads
+pub mod Making
+pub mod Mirrors
+pub mod Parts
+pub mod Shows
+pub mod Starts
+pub mod Stores

@@ -1,0 +1,5 @@
+-- How the code keeps blocks and their bytes, and writes them.
+pub mod Keeping
+pub mod Slots
+pub mod Spots
+pub mod Writing
