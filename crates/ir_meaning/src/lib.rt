@@ -1,0 +1,6 @@
+//! What a program does: its states, and one step of it.
+#![tactic(auto)]
+
+mod session;
+
+pub use session::{Reply, ReplyVal, Shown, Stepped, Wanted};
