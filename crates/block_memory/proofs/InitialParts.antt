@@ -8,7 +8,7 @@ use Rattle.ir_syntax.specs.declared.constant.Const.TheBlock as of
 use Rattle.ir_syntax.specs.declared.constant.Const.TheViews.{Many}
 use Rattle.ir_syntax.specs.declared.constant.Const.TheVariants.{rolls-Int, rolls-Null, rolls-Addr, rolls-Undef, rolls-Poison, rolls-Zero, rolls-Text, rolls-Many}
 use Rattle.ir_syntax.specs.declared.constant.Const.TheFolds.{fold-roll-Const}
-use Rattle.block_memory.specs.InitialBytes.{InitialPart, Poison, Num, Of, little_endian, address_bytes, zeros, fields_from, parts_in, initial_step, initial_parts}
+use Rattle.ir_syntax.specs.InitialBytes.{InitialPart, Poison, Num, Of, little_endian, address_bytes, zeros, fields_from, parts_in, initial_step, initial_parts}
 
 pub initial-Int : (n : ℕ) (ty : Ty) → initial_parts (of.Int n) ty ≡ map Num (little_endian (size ty) n)
 unfolding initial_parts

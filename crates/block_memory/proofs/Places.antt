@@ -6,7 +6,7 @@ use Rattle.ir_types.specs.declared.scalar.Scalar.{Scalar}
 use Rattle.ir_types.specs.declared.scalar.Scalar.TheVariants.{I1, I8, I16, I32, I64, Ptr}
 use Rattle.ir_types.specs.Layout.{scalar_size}
 use Rattle.ir_syntax.specs.declared.symbol.Sym.{Sym}
-use Rattle.block_memory.specs.InitialBytes.{little_endian}
+use Rattle.ir_syntax.specs.InitialBytes.{little_endian}
 use Rattle.int_ops.specs.declared.cause.Cause.{Cause}
 use Rattle.int_ops.specs.declared.cause.Cause.TheVariants as cause
 use Rattle.block_memory.specs.declared.value.Name.{Name}

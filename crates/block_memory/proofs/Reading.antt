@@ -3,7 +3,7 @@ use Rattle.std.proofs.Common.{◌≡◌, ℕ, zero, suc, ◌+◌, ◌-◌, ◌*�
 use Rattle.std.proofs.lemmas.List.{drop_more, length-drop, length-take, drop-drop}
 use Rattle.std.proofs.Math.Seq.{take-add}
 use Rattle.ir_syntax.specs.declared.symbol.Sym.{Sym}
-use Rattle.block_memory.specs.InitialBytes.{address_bytes}
+use Rattle.ir_syntax.specs.InitialBytes.{address_bytes}
 use Rattle.block_memory.specs.declared.value.Name.{Name}
 use Rattle.block_memory.specs.declared.value.Val.TheVariants as val
 use Rattle.block_memory.specs.declared.value.Part.{Part}

@@ -11,7 +11,7 @@ use Rattle.ir_types.proofs.Extents.{extent-One, extent-Struct}
 use Rattle.ir_syntax.specs.declared.constant.Const.{Const}
 use Rattle.ir_syntax.specs.declared.constant.Const.TheBlock as of
 use Rattle.ir_syntax.specs.declared.constant.Const.TheViews.{Many}
-use Rattle.block_memory.specs.InitialBytes.{InitialPart, Poison, Num, Of, little_endian, zeros, fields_from, parts_in, initial_parts}
+use Rattle.ir_syntax.specs.InitialBytes.{InitialPart, Poison, Num, Of, little_endian, zeros, fields_from, parts_in, initial_parts}
 use Rattle.block_memory.proofs.InitialParts.{initial-Int, initial-Addr, initial-Undef, initial-Text, initial-Many, fields_from-cons}
 
 -- `@text = constant [4 x i8] c"ok\00\00"`

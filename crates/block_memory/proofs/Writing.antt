@@ -3,7 +3,7 @@ use Rattle.std.proofs.Common.{◌≡◌, ℕ, suc, ◌+◌, ◌-◌, ◌/◌, �
 use Rattle.std.proofs.lemmas.List.{take_more, length-take, length-drop, drop-set-lt, drop-set-add, take-set-le, set_comm, get_or-drop}
 use Rattle.std.proofs.lemmas.List.Edits.{sets, sets-eq}
 use Rattle.ir_syntax.specs.declared.symbol.Sym.{Sym}
-use Rattle.block_memory.specs.InitialBytes.{little_endian, address_bytes}
+use Rattle.ir_syntax.specs.InitialBytes.{little_endian, address_bytes}
 use Rattle.block_memory.specs.declared.value.Name.{Name}
 use Rattle.block_memory.specs.declared.value.Part.{Part}
 use Rattle.block_memory.specs.declared.value.Part.TheVariants as part

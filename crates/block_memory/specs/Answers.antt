@@ -17,6 +17,12 @@ abbrev pub or_stuck : {A : Type 0} → Option A → Answer A
 or_stuck None = Stuck
 or_stuck (Some x) = Gives x
 
+-- There is a value, or a cause: what is asked has a meaning.
+abbrev pub IsMeant : {A : Type 0} → Answer A → Type 0
+IsMeant (Gives x) = Unit {0}
+IsMeant (Undefined cause) = Unit {0}
+IsMeant Stuck = ⊥
+
 -- Causes in the order in which they are looked at, each with whether it holds: the first that does, and else the value.
 abbrev pub unless : {A : Type 0} → List (Cause × Bool) → A → Answer A
 unless [] x = Gives x

@@ -4,7 +4,6 @@ pub mod Blocks
 pub mod Comparisons
 pub mod Copies
 pub mod Fills
-pub mod InitialBytes
 pub mod Loads
 pub mod Making
 pub mod Mirrors

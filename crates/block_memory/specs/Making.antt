@@ -9,7 +9,7 @@ use Rattle.block_memory.specs.declared.value.Val.TheVariants as val
 use Rattle.block_memory.specs.declared.value.Part.{Part}
 use Rattle.block_memory.specs.declared.value.Part.TheVariants as part
 use Rattle.block_memory.specs.Answers.{Answer, Gives, Undefined}
-use Rattle.block_memory.specs.Blocks.{LiveBlock, MemoryBlock, Live, Ended, MemoryData, size_of, is_live}
+use Rattle.block_memory.specs.Blocks.{LiveBlock, MemoryBlock, Live, Ended, MemoryData, size_of}
 
 -- ---- made
 
@@ -25,10 +25,6 @@ abbrev pub alloc : MemoryData → ℕ → Bool → Bool → MemoryData
 alloc mem size heap zeroed = record mem { made = mem.made ++ Live (new_block size heap zeroed) ∷ [] }
 
 -- ---- ended
-
-abbrev pub is_live_at : Option MemoryBlock → Bool
-is_live_at None = false
-is_live_at (Some block) = is_live block
 
 abbrev pub end_at : MemoryData → ℕ → Option MemoryBlock → MemoryData
 end_at mem number None = mem

@@ -1,6 +1,6 @@
 -- The bytes of a value, and the value of bytes (LLVM Language Reference Manual, "'store' Instruction", "'load' Instruction"). The order of
 -- bytes is little-endian.
-use Rattle.std.specs.Prelude.{ℕ, ◌+◌, ◌*◌, Bool, true, false, ◌&&◌, ◌==◌, nat_lt, ℤ, List, [], ◌∷◌, map, replicate, Option, Some, None, option_map, if◌then◌else◌}
+use Rattle.std.specs.Prelude.{ℕ, ◌+◌, ◌*◌, Bool, true, false, ◌&&◌, ◌==◌, ℤ, List, [], ◌∷◌, map, replicate, Option, Some, None, option_map, if◌then◌else◌}
 use Rattle.std.specs.Ordering.{int_eq}
 use Rattle.ir_types.specs.declared.scalar.Scalar.{Scalar}
 use Rattle.ir_types.specs.declared.scalar.Scalar.TheVariants.{I1, I8, I16, I32, I64, Ptr}
@@ -8,7 +8,7 @@ use Rattle.ir_types.specs.Layout.{scalar_size}
 use Rattle.ir_types.specs.Scalars.{is_number_of}
 use Rattle.ir_syntax.specs.declared.symbol.Sym.{Sym}
 use Rattle.ir_syntax.specs.Suits.{is_pointer}
-use Rattle.block_memory.specs.InitialBytes.{little_endian, address_bytes}
+use Rattle.ir_syntax.specs.InitialBytes.{little_endian, address_bytes}
 use Rattle.block_memory.specs.declared.value.Name.{Name}
 use Rattle.block_memory.specs.declared.value.Name.TheVariants as name
 use Rattle.block_memory.specs.declared.value.Val.{Val}
@@ -70,14 +70,10 @@ address_in part.Poison = val.Poison
 address_in (part.Num byte) = val.Poison
 address_in (part.Of of offset k) = val.At of offset
 
--- i1 has the numbers 0 and 1
-abbrev pub bit_in : Option ℕ → Val Sym
-bit_in None = val.Poison
-bit_in (Some n) = if nat_lt n 2 then val.Num n else val.Poison
-
-abbrev pub integer_in : Option ℕ → Val Sym
-integer_in None = val.Poison
-integer_in (Some n) = val.Num n
+-- A number that is none of the type is poison: i1 has 0 and 1.
+abbrev pub integer_in : Scalar → Option ℕ → Val Sym
+integer_in ty None = val.Poison
+integer_in ty (Some n) = if is_number_of ty n then val.Num n else val.Poison
 
 -- null is written as zeros, and no other number is a pointer
 abbrev pub null_in : Option ℕ → Val Sym
@@ -93,9 +89,9 @@ pointer_in (part.Of of offset k ∷ parts) = if are_bytes_of of offset address_b
 
 -- the value of the type that the bytes are
 abbrev pub value_in : Scalar → List (Part Sym) → Val Sym
-value_in I1 parts = bit_in (number_in parts)
-value_in I8 parts = integer_in (number_in parts)
-value_in I16 parts = integer_in (number_in parts)
-value_in I32 parts = integer_in (number_in parts)
-value_in I64 parts = integer_in (number_in parts)
+value_in I1 parts = integer_in I1 (number_in parts)
+value_in I8 parts = integer_in I8 (number_in parts)
+value_in I16 parts = integer_in I16 (number_in parts)
+value_in I32 parts = integer_in I32 (number_in parts)
+value_in I64 parts = integer_in I64 (number_in parts)
 value_in Ptr parts = pointer_in parts

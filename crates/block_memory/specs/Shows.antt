@@ -16,15 +16,6 @@ abbrev pub shown : MemoryBlock → Answer (List (Part Sym))
 shown (Live block) = Gives block.parts
 shown (Ended size) = Undefined cause.EndedBlock
 
--- The value is a pointer into a block that isn't a function's.
-abbrev pub IsIntoBytes : Val Sym → Type 0
-IsIntoBytes (val.Num n) = ⊥
-IsIntoBytes val.Null = ⊥
-IsIntoBytes (val.At (name.Var symbol) offset) = Unit {0}
-IsIntoBytes (val.At (name.Func symbol) offset) = ⊥
-IsIntoBytes (val.At (name.Made number) offset) = Unit {0}
-IsIntoBytes val.Poison = ⊥
-
 -- the block of a pointer that isn't a function's
 abbrev pub show : MemoryData → Val Sym → Answer (List (Part Sym))
 show mem (val.Num n) = Stuck

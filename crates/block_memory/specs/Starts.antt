@@ -5,7 +5,7 @@ use Rattle.ir_syntax.specs.declared.item.Var.{Var}
 use Rattle.ir_syntax.specs.declared.item.Item.{Item}
 use Rattle.ir_syntax.specs.declared.item.Item.TheVariants as item
 use Rattle.ir_syntax.specs.declared.item.Module.{Module}
-use Rattle.block_memory.specs.InitialBytes.{InitialPart, Poison, Num, Of, initial_bytes}
+use Rattle.ir_syntax.specs.InitialBytes.{InitialPart, Poison, Num, Of, initial_bytes}
 use Rattle.ir_syntax.specs.Programs.{ProgramData}
 use Rattle.ir_syntax.specs.Symbols.{item_at}
 use Rattle.ir_syntax.specs.Targets.{entry_at}

@@ -1,7 +1,7 @@
 //! Comparisons of pointers.
 ghost use Rattle.std.specs.Prelude.{◌≡◌, Some};
-ghost use Rattle.block_memory.specs.Answers.{answered};
-ghost use Rattle.block_memory.specs.Blocks.{IsKnown, IsNamed};
+ghost use Rattle.block_memory.specs.Answers.{IsMeant, answered};
+ghost use Rattle.block_memory.specs.Blocks.{IsNamed};
 ghost use Rattle.block_memory.specs.Comparisons as comparisons;
 
 use crate::names::is_same;
@@ -165,8 +165,7 @@ impl Memory {
         other: &Name<Sym>,
         b: i64,
     ) -> Result<Val<Sym>, Cause>
-        requires one { IsNamed self.now of.now }
-        requires other { IsNamed self.now other.now }
+        requires meant { IsMeant (comparisons.addresses self.now pred of.now a other.now b) }
         ensures { comparisons.addresses self.now pred of.now a other.now b ≡ answered result }
     {
         let one = self.extent(of);
@@ -185,8 +184,7 @@ impl Memory {
         offset: i64,
         other: &Val<Sym>,
     ) -> Result<Val<Sym>, Cause>
-        requires one { IsNamed self.now of.now }
-        requires other { IsKnown self.now other.now }
+        requires meant { IsMeant (comparisons.address_with self.now pred of.now offset other.now) }
         ensures { comparisons.address_with self.now pred of.now offset other.now ≡ answered result }
     {
         match other {
@@ -199,7 +197,7 @@ impl Memory {
 
     /// Null and another value.
     fn null_with(&self, pred: Pred, other: &Val<Sym>) -> Result<Val<Sym>, Cause>
-        requires { IsKnown self.now other.now }
+        requires meant { IsMeant (comparisons.null_with self.now pred other.now) }
         ensures { comparisons.null_with self.now pred other.now ≡ answered result }
     {
         match other {
@@ -218,10 +216,9 @@ impl Memory {
     /// two live blocks differ. An address from 0 to the size of a live block differs from null. Everything else is
     /// undefined (`Incomparable`). Takes no memory.
     ///
-    /// The values are to name blocks of the program or ones that this memory made.
+    /// The values are to name blocks of the program or ones that this memory made: what is asked has a meaning.
     pub fn compare(&self, pred: Pred, a: &Val<Sym>, b: &Val<Sym>) -> Result<Val<Sym>, Cause>
-        requires a { IsKnown self.now a.now }
-        requires b { IsKnown self.now b.now }
+        requires meant { IsMeant (comparisons.compare self.now pred a.now b.now) }
         ensures { comparisons.compare self.now pred a.now b.now ≡ answered result }
     {
         match a {

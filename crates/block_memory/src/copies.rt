@@ -1,15 +1,17 @@
 //! Copies and fills.
-ghost use Rattle.std.specs.Prelude.{◌≡◌, ◌<◌, ◌&&◌, not, true, false, OnErr, IsSome, Some};
-ghost use Rattle.block_memory.specs.Answers.{answered, changed};
-ghost use Rattle.block_memory.specs.Blocks.{IsAddress, IsKnown, block_at};
+ghost use Rattle.std.specs.Prelude.{◌≡◌, ◌<◌, ◌&&◌, not, true, false, OnErr, IsSome, Some, replicate};
+ghost use Rattle.block_memory.specs.Answers.{IsMeant, answered, changed};
+ghost use Rattle.block_memory.specs.Blocks.{IsAddress, Live, LiveBlock, block_at, put_block, with_parts};
 ghost use Rattle.block_memory.specs.Copies as copies;
 ghost use Rattle.block_memory.specs.Fills as fills;
 ghost use Rattle.block_memory.specs.Mirrors.Spots.{HasBytes, moved};
+ghost use Rattle.block_memory.specs.Mirrors.Writing.{set_from};
 ghost use Rattle.block_memory.specs.Parts.{same_name};
+ghost use Rattle.block_memory.specs.declared.value.Part.TheVariants as part;
 
 use crate::names::is_same;
 use crate::spot::Spot;
-use crate::{Memory, Part, Val};
+use crate::{Memory, Name, Part, Val};
 use int_ops::Cause;
 use ir_syntax::Sym;
 
@@ -106,7 +108,8 @@ impl Memory {
     /// and last that ranges which may not overlap do so and aren't equal (`Overlap`). After an error nothing has changed.
     /// Takes no memory.
     ///
-    /// The addresses are to be no numbers, and to name blocks of the program or ones that this memory made.
+    /// The addresses are to be no numbers, and to name blocks of the program or ones that this memory made: what is asked
+    /// has a meaning.
     pub fn copy_bytes(
         &mut self,
         to: &Val<Sym>,
@@ -114,10 +117,7 @@ impl Memory {
         len: u64,
         may_overlap: bool,
     ) -> Result<(), Cause>
-        requires known_to { IsKnown self.old to.now }
-        requires known_from { IsKnown self.old from.now }
-        requires address_to { IsAddress to.now }
-        requires address_from { IsAddress from.now }
+        requires meant { IsMeant (copies.copy self.old to.now from.now len may_overlap) }
         ensures answer { copies.copy self.old to.now from.now len may_overlap ≡ changed self.new result }
         ensures err { OnErr result (self.new ≡ self.old) }
     {
@@ -141,11 +141,9 @@ impl Memory {
     /// first cause that holds, as of a store of bytes. After an error nothing has changed. Takes no memory.
     ///
     /// The address is to be no number, and to name a block of the program or one that this memory made. The byte is to be
-    /// poison or a number below 256.
+    /// poison or a number below 256. So what is asked has a meaning.
     pub fn fill(&mut self, to: &Val<Sym>, byte: &Val<Sym>, len: u64) -> Result<(), Cause>
-        requires known { IsKnown self.old to.now }
-        requires address { IsAddress to.now }
-        requires byte { IsSome (fills.byte_of byte.now) }
+        requires meant { IsMeant (fills.fill self.old to.now byte.now len) }
         ensures answer { fills.fill self.old to.now byte.now len ≡ changed self.new result }
         ensures err { OnErr result (self.new ≡ self.old) }
     {
@@ -158,5 +156,15 @@ impl Memory {
         block.fill(spot.offset, len as usize, &part);
         self.put(&spot.of, block);
         Ok(())
+    }
+
+    /// Writes one byte within a live block. Takes no memory.
+    pub fn write_byte(&mut self, of: &Name<Sym>, at: u64, byte: u8)
+        requires room { HasBytes (block_at self.old of.now) at 1 }
+        ensures { (block : LiveBlock) → block_at self.old of.now ≡ Some (Live block) → self.new ≡ put_block self.old of.now (with_parts block (set_from block.parts at (replicate 1 (part.Num byte)))) }
+    {
+        let mut block = self.take(of);
+        block.fill(at as usize, 1, &Part::Num(byte));
+        self.put(of, block);
     }
 }

@@ -15,6 +15,7 @@ mod row;
 mod shows;
 mod slot;
 mod spot;
+mod starts;
 mod stores;
 mod value;
 mod writes;

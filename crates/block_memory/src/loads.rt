@@ -1,7 +1,6 @@
 //! Loads.
 ghost use Rattle.std.specs.Prelude.{◌≡◌};
-ghost use Rattle.block_memory.specs.Answers.{answered};
-ghost use Rattle.block_memory.specs.Blocks.{IsAddress, IsKnown};
+ghost use Rattle.block_memory.specs.Answers.{IsMeant, answered};
 ghost use Rattle.block_memory.specs.Loads.{load};
 
 use crate::reads::bytes_of;
@@ -18,10 +17,10 @@ impl Memory {
     /// (`NullAddress`), in a function's block (`NotBytes`) or in a block that has ended (`EndedBlock`); a byte of the value
     /// is outside the block (`OutsideBlock`); the offset is no multiple of the alignment (`Misaligned`). Takes no memory.
     ///
-    /// The address is to be no number, and to name a block of the program or one that this memory made.
+    /// The address is to be no number, and to name a block of the program or one that this memory made: what is asked has a
+    /// meaning.
     pub fn load(&self, ty: Scalar, align: u8, at: &Val<Sym>) -> Result<Val<Sym>, Cause>
-        requires known { IsKnown self.now at.now }
-        requires address { IsAddress at.now }
+        requires meant { IsMeant (load self.now ty align at.now) }
         ensures { load self.now ty align at.now ≡ answered result }
     {
         let spot = self.spot(bytes_of(ty) as u64, align, false, at)?;

@@ -1,9 +1,8 @@
 //! Blocks that are made and ended.
 ghost use Rattle.std.specs.Prelude.{◌≡◌, ◌↔◌, ◌<◌, IfOk, OnOk, OnErr, IsTrue, length, slice_get};
 ghost use Rattle.block_memory.specs.Answers.{changed};
-ghost use Rattle.block_memory.specs.Blocks.{IsKnown};
 ghost use Rattle.block_memory.specs.Making as making;
-ghost use Rattle.block_memory.specs.Making.{end, free, is_live_at, is_heap_at};
+ghost use Rattle.block_memory.specs.Making.{end, free, is_heap_at};
 
 use crate::block::Block;
 use crate::parts::Parts;
@@ -34,12 +33,15 @@ impl Memory {
         Ok(number)
     }
 
-    /// Ends a made block that is live: its size is left. Takes no memory.
+    /// Ends a made block: its size is left. Where no block has the number, or it has ended, nothing changes. Takes no
+    /// memory.
     pub fn end(&mut self, number: u64)
-        requires live { IsTrue (is_live_at (slice_get self.old.made number)) }
         ensures { self.new ≡ end self.old number }
     {
         let at = number as usize;
+        if at >= self.made.len() {
+            return;
+        }
         let size = match self.made[at].state() {
             State::Live(block) => block.parts().len(),
             State::Ended(size) => *size,
@@ -49,21 +51,20 @@ impl Memory {
 
     /// Whether a live block from the heap was made with this number.
     fn is_heap(&self, number: u64) -> bool
-        requires { number < length self.now.made }
         ensures { result ≡ is_heap_at (slice_get self.now.made number) }
     {
-        match self.made[number as usize].state() {
-            State::Live(block) => block.is_heap(),
-            State::Ended(_) => false,
+        match self.made.get(number as usize) {
+            Some(slot) => match slot.state() {
+                State::Live(block) => block.is_heap(),
+                State::Ended(_) => false,
+            },
+            None => false,
         }
     }
 
     /// Ends the live block from the heap whose first byte the address is, as `free` does; null is left alone. Every other
     /// value is undefined (`BadFree`), and changes nothing. Takes no memory.
-    ///
-    /// The address is to name a block of the program or one that this memory made.
     pub fn free(&mut self, at: &Val<Sym>) -> Result<(), Cause>
-        requires known { IsKnown self.old at.now }
         ensures answer { free self.old at.now ≡ changed self.new result }
         ensures err { OnErr result (self.new ≡ self.old) }
     {

@@ -2,9 +2,9 @@
 ghost use Rattle.std.specs.Prelude.{◌≡◌, ◌↔◌, ℕ, ◌+◌, ◌^◌, ◌<◌, min, Some, None, Option, IfOk, OnOk, OnErr, IfErr, IsOk, IsTrue, length, slice_get};
 ghost use Rattle.ir_syntax.specs.Programs.{ProgramData};
 ghost use Rattle.block_memory.specs.Accesses.{offset_in, place_under, place_of};
-ghost use Rattle.block_memory.specs.Answers.{answered, changed};
-ghost use Rattle.block_memory.specs.Blocks.{Live, MemoryData, IsAddress, IsKnown, IsNamed, block_at, put_block};
-ghost use Rattle.block_memory.specs.Making.{alloc, end, free, is_live_at};
+ghost use Rattle.block_memory.specs.Answers.{IsMeant, answered, changed};
+ghost use Rattle.block_memory.specs.Blocks.{Live, MemoryData, IsNamed, block_at, put_block};
+ghost use Rattle.block_memory.specs.Making.{alloc, end, free};
 ghost use Rattle.block_memory.specs.Mirrors.Spots.{IsLiveBlock, IsRoom, without, spotted};
 
 use crate::block::Block;
@@ -172,8 +172,7 @@ impl Memory {
         writes: bool,
         at: &Val<Sym>,
     ) -> Result<Spot, Cause>
-        requires known { IsKnown self.now at.now }
-        requires address { IsAddress at.now }
+        requires meant { IsMeant (place_of self.now (record { bytes = bytes; align = align; writes = writes }) at.now) }
         ensures { answered result ≡ spotted (place_of self.now (record { bytes = bytes; align = align; writes = writes }) at.now) }
     {
         match at {

@@ -1,9 +1,11 @@
 //! Values in the bytes of a block.
-ghost use Rattle.std.specs.Prelude.{◌≡◌, ◌+◌, ◌≤◌, ◌<◌, ◌^◌, IfSome, length, take, drop, slice_index_or};
+ghost use Rattle.std.specs.Prelude.{◌≡◌, ◌+◌, ◌≤◌, ◌<◌, ◌^◌, IfSome, IsTrue, length, take, drop, slice_index_or};
 ghost use Rattle.ir_types.specs.Layout.{scalar_size};
-ghost use Rattle.block_memory.specs.Parts.{number_in, is_byte_of, are_bytes_of, address_in, bit_in, integer_in, null_in, pointer_in, value_in};
+ghost use Rattle.ir_types.specs.Scalars.{is_number_of};
+ghost use Rattle.ir_types.specs.declared.scalar.Scalar.TheVariants.{I1};
+ghost use Rattle.block_memory.specs.Parts.{number_in, is_byte_of, are_bytes_of, address_in, integer_in, null_in, pointer_in, value_in};
 ghost use Rattle.block_memory.specs.declared.value.Part.TheVariants as part;
-ghost use Rattle.block_memory.specs.InitialBytes.{address_bytes};
+ghost use Rattle.ir_syntax.specs.InitialBytes.{address_bytes};
 
 use crate::names::{is_same, name_again};
 use crate::parts::Parts;
@@ -27,9 +29,10 @@ pub fn bytes_of(ty: Scalar) -> usize
     }
 }
 
-/// A number as a value, and poison where there is none.
-fn integer(number: Option<u64>) -> Val<Sym>
-    ensures { result ≡ integer_in number }
+/// A number of the type as a value, and poison where there is none.
+fn integer(_ty: Scalar, number: Option<u64>) -> Val<Sym>
+    requires { IfSome number (λ n. IsTrue (is_number_of _ty n)) }
+    ensures { result ≡ integer_in _ty number }
 {
     match number {
         Some(number) => Val::Num(number),
@@ -184,7 +187,7 @@ impl Parts {
     /// The i1 of a byte.
     fn bit(&self, at: usize) -> Val<Sym>
         requires { at + 1 ≤ length self.now }
-        ensures { result ≡ bit_in (number_in (take 1 (drop at self.now))) }
+        ensures { result ≡ integer_in I1 (number_in (take 1 (drop at self.now))) }
     {
         match self.byte(at) {
             Some(byte) => {
@@ -205,10 +208,10 @@ impl Parts {
     {
         match ty {
             Scalar::I1 => self.bit(at),
-            Scalar::I8 => integer(self.byte(at)),
-            Scalar::I16 => integer(self.half(at)),
-            Scalar::I32 => integer(self.word(at)),
-            Scalar::I64 => integer(self.double(at)),
+            Scalar::I8 => integer(ty, self.byte(at)),
+            Scalar::I16 => integer(ty, self.half(at)),
+            Scalar::I32 => integer(ty, self.word(at)),
+            Scalar::I64 => integer(ty, self.double(at)),
             Scalar::Ptr => self.pointer(at),
         }
     }

@@ -1,8 +1,9 @@
 //! Blocks as a call outside is shown them.
-ghost use Rattle.std.specs.Prelude.{◌≡◌, IfErr, IfOk};
-ghost use Rattle.block_memory.specs.Answers.{Gives};
-ghost use Rattle.block_memory.specs.Blocks.{IsKnown};
-ghost use Rattle.block_memory.specs.Shows.{IsIntoBytes, IsShowCause, show};
+ghost use Rattle.std.specs.Prelude.{◌≡◌, IfErr, IfOk, Some};
+ghost use Rattle.block_memory.specs.Answers.{Gives, IsMeant};
+ghost use Rattle.block_memory.specs.Blocks.{Live, LiveBlock, block_at};
+ghost use Rattle.block_memory.specs.Mirrors.Spots.{IsLiveBlock};
+ghost use Rattle.block_memory.specs.Shows.{IsShowCause, show};
 
 use crate::parts::Parts;
 use crate::slot::State;
@@ -42,8 +43,7 @@ impl Memory {
     ///
     /// The value is to be a pointer into a block that isn't a function's, of the program or one that this memory made.
     pub fn show(&self, alloc: Global, at: &Val<Sym>) -> Result<List<Part<Sym>>, ShowFault>
-        requires known { IsKnown self.now at.now }
-        requires pointer { IsIntoBytes at.now }
+        requires meant { IsMeant (show self.now at.now) }
         ensures ok { IfOk result (λ parts. show self.now at.now ≡ Gives parts) }
         ensures err { IfErr result (λ fault. IsShowCause self.now at.now fault) }
     {
@@ -60,5 +60,15 @@ impl Memory {
             },
             Val::Poison => unreachable!(),
         }
+    }
+
+    /// Whether the live block under a name may be written to. Takes no memory.
+    ///
+    /// The name is to be that of a live block with bytes.
+    pub fn is_writable(&self, of: &Name<Sym>) -> bool
+        requires { IsLiveBlock (block_at self.now of.now) }
+        ensures { (block : LiveBlock) → block_at self.now of.now ≡ Some (Live block) → result ≡ block.writable }
+    {
+        self.block(of).is_writable()
     }
 }

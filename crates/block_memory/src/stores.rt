@@ -1,8 +1,6 @@
 //! Stores.
-ghost use Rattle.std.specs.Prelude.{◌≡◌, OnErr, IsTrue};
-ghost use Rattle.block_memory.specs.Answers.{changed};
-ghost use Rattle.block_memory.specs.Blocks.{IsAddress, IsKnown};
-ghost use Rattle.block_memory.specs.Parts.{is_value_of};
+ghost use Rattle.std.specs.Prelude.{◌≡◌, OnErr};
+ghost use Rattle.block_memory.specs.Answers.{IsMeant, changed};
 ghost use Rattle.block_memory.specs.Stores.{store};
 
 use crate::reads::bytes_of;
@@ -19,7 +17,8 @@ impl Memory {
     /// (`ReadOnly`). After an error nothing has changed. Takes no memory.
     ///
     /// The address is to be no number, and to name a block of the program or one that this memory made. The value is to be
-    /// poison, a number below 2^w for an integer type of width w, or null or a pointer for `ptr`.
+    /// poison, a number below 2^w for an integer type of width w, or null or a pointer for `ptr`. So what is asked has a
+    /// meaning.
     pub fn store(
         &mut self,
         ty: Scalar,
@@ -27,9 +26,7 @@ impl Memory {
         value: &Val<Sym>,
         at: &Val<Sym>,
     ) -> Result<(), Cause>
-        requires known { IsKnown self.old at.now }
-        requires address { IsAddress at.now }
-        requires of_type { IsTrue (is_value_of ty value.now) }
+        requires meant { IsMeant (store self.old ty align value.now at.now) }
         ensures answer { store self.old ty align value.now at.now ≡ changed self.new result }
         ensures err { OnErr result (self.new ≡ self.old) }
     {

@@ -1,7 +1,7 @@
 //! Writes to the bytes of a block. None takes memory.
 ghost use Rattle.std.specs.Prelude.{◌≡◌, ◌+◌, ◌≤◌, length, map, replicate, take, drop, IsTrue};
 ghost use Rattle.ir_types.specs.Layout.{scalar_size};
-ghost use Rattle.block_memory.specs.InitialBytes.{little_endian, address_bytes};
+ghost use Rattle.ir_syntax.specs.InitialBytes.{little_endian, address_bytes};
 ghost use Rattle.block_memory.specs.declared.value.Part.TheVariants as part;
 ghost use Rattle.block_memory.specs.Mirrors.Writing.{set_from};
 ghost use Rattle.block_memory.specs.Parts.{is_value_of, parts_of};

@@ -7,6 +7,7 @@ pub mod FormedBody
 pub mod FormedItem
 pub mod FunctionTypes
 pub mod IndexWalks
+pub mod InitialBytes
 pub mod Intrinsics
 pub mod Mapped
 pub mod Named

@@ -1,5 +1,5 @@
 use Rattle.std.proofs.Common.{◌≡◌, ◌+◌, ◌-◌, take, drop, ap, ◌∙◌, arith}
-use Rattle.block_memory.specs.InitialBytes.{address_bytes}
+use Rattle.ir_syntax.specs.InitialBytes.{address_bytes}
 use Rattle.block_memory.specs.Parts.{are_bytes_of}
 use Rattle.block_memory.proofs.parts.Parts.are_bytes_of.Goals as goal
 

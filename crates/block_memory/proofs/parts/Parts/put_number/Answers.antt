@@ -1,6 +1,6 @@
 use Rattle.std.proofs.Common.{◌+◌, ◌-◌, ◌/◌, ◌%◌, map, length, ap, ◌∙◌, arith}
 use Rattle.std.proofs.lemmas.List.{length-set}
-use Rattle.block_memory.specs.InitialBytes.{little_endian}
+use Rattle.ir_syntax.specs.InitialBytes.{little_endian}
 use Rattle.block_memory.specs.Mirrors.Writing.{set_from}
 use Rattle.block_memory.proofs.Writing.{num, written_on, number_next}
 use Rattle.block_memory.proofs.parts.Parts.put_number.Goals as goal

@@ -1,5 +1,5 @@
 use Rattle.std.proofs.Common.{◌≡◌, ◌+◌, ◌-◌, length, map}
-use Rattle.block_memory.specs.InitialBytes.{little_endian}
+use Rattle.ir_syntax.specs.InitialBytes.{little_endian}
 use Rattle.block_memory.specs.declared.value.Part.TheVariants as part
 use Rattle.block_memory.specs.Mirrors.Writing.{set_from}
 use Rattle.block_memory.proofs.parts.Parts.put_number.Given as goal

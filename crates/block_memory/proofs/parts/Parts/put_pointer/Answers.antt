@@ -1,6 +1,6 @@
 use Rattle.std.proofs.Common.{◌+◌, map, drop, length, ap, ◌∙◌, slice_set, arith}
 use Rattle.std.proofs.lemmas.List.{length-set}
-use Rattle.block_memory.specs.InitialBytes.{address_bytes}
+use Rattle.ir_syntax.specs.InitialBytes.{address_bytes}
 use Rattle.block_memory.specs.Mirrors.Writing.{set_from}
 use Rattle.block_memory.proofs.Writing.{byte_of, written_on, address_next}
 use Rattle.block_memory.proofs.parts.Parts.put_pointer.Goals as goal

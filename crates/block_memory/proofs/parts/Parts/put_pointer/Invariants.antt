@@ -1,5 +1,5 @@
 use Rattle.std.proofs.Common.{◌≡◌, ◌+◌, length, map, drop}
-use Rattle.block_memory.specs.InitialBytes.{address_bytes}
+use Rattle.ir_syntax.specs.InitialBytes.{address_bytes}
 use Rattle.block_memory.specs.declared.value.Part.TheVariants as part
 use Rattle.block_memory.specs.Mirrors.Writing.{set_from}
 use Rattle.block_memory.proofs.parts.Parts.put_pointer.Given as goal
