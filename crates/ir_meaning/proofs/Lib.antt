@@ -1,1 +1,16 @@
-mod WorkedSteps
+pub mod Answering
+pub mod Begun
+pub mod Entered
+pub mod Looked
+pub mod Meaning
+pub mod Named
+pub mod Numbered
+pub mod Opened
+pub mod Passing
+pub mod Resumed
+pub mod Sized
+pub mod Stacked
+pub mod Status
+pub mod Strided
+pub mod Walked
+pub mod Wrapped

@@ -1,13 +1,3 @@
-pub mod States
-pub mod Operands
-pub mod Results
-pub mod Pointers
-pub mod Reading
-pub mod Showing
-pub mod Replies
-pub mod Builtins
-pub mod Copying
-pub mod Calls
-pub mod Branches
-pub mod Returns
-pub mod Steps
+pub mod Kept
+pub mod Models
+pub mod Mirrors

@@ -1,0 +1,16 @@
+pub mod States
+pub mod Operands
+pub mod Results
+pub mod Pointers
+pub mod Reading
+pub mod Showing
+pub mod Replies
+pub mod Builtins
+pub mod Copying
+pub mod Calls
+pub mod Branches
+pub mod Returns
+pub mod Steps
+pub mod Reached
+pub mod NeverStuck
+pub mod WorkedPrograms
