@@ -1,0 +1,9 @@
+mod Behind
+mod Ended
+mod Entering
+mod Going
+mod GoingOn
+mod Longer
+mod PlayedSoFar
+mod Texts
+mod Writing
