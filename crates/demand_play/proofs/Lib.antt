@@ -1,0 +1,12 @@
+pub mod Answering
+pub mod Generations
+pub mod Histories
+pub mod Holding
+pub mod Legality
+pub mod Listed
+pub mod NeededRows
+pub mod Ordering
+pub mod Places
+pub mod Playing
+pub mod Sets
+pub mod Sorting

@@ -1,0 +1,5 @@
+pub mod Cores
+pub mod Entries
+pub mod History
+pub mod Legal
+pub mod Mirrors

@@ -1,0 +1,4 @@
+pub mod Chosen
+pub mod Folded
+pub mod Listed
+pub mod Once
