@@ -1,15 +1,14 @@
-//! Reads rows from a file and links each: `link_rows FILE`. A row stands behind a line `; == NAME`: a manifest, and the texts
-//! of its modules, each behind a line `; --`. Printed is what each item stands for with its canonical symbol, or what
-//! linking refuses.
+//! Reads rows from a file and links each: `link_rows FILE [--cycles FILE]`. A row stands behind a line `; == NAME`: a
+//! manifest, and the texts of its modules, each behind a line `; --`. Printed is what each item stands for with its canonical
+//! symbol, or what linking refuses; of rows behind `--cycles` which functions are on call cycles.
 #![tactic(auto)]
 
+mod cycles;
 mod shown;
-mod sound;
 
+use crate::cycles::cycles_text;
 use crate::shown::{fault_text, program_text};
-use crate::sound::modules_of;
-use linker::link;
-use manifest::read_manifest;
+use program_rows::{Linked, link_row};
 use std::alloc::Global;
 use std::process::ExitCode;
 use std::rt::{Env, Files};
@@ -26,29 +25,46 @@ fn main(rt: HostRuntime) -> ExitCode {
 }
 
 fn run<R: Env + Files + Print + AllocGlobal>(rt: &R) -> anyhow::Result<()> {
+    let mut asked = Asked::Items;
     for word in env::args(rt)?.skip(1) {
-        let table = fs::read_to_string(rt, word.as_str())?;
-        for piece in table.split(BEHIND).skip(1) {
-            let (name, row) = piece.split_once('\n').unwrap_or((piece, ""));
-            let answer = answer_of(rt.alloc(), row)?;
-            println!(rt; "{name}: {answer}")?;
+        match word.as_str() {
+            "--cycles" => asked = Asked::Cycles,
+            file => print_rows(rt, asked, file)?,
         }
     }
     Ok(())
 }
 
+/// What is asked of linked programs.
+#[derive(Clone, Copy, Debug)]
+enum Asked {
+    Items,
+    Cycles,
+}
+
+fn print_rows<R: Files + Print + AllocGlobal>(
+    rt: &R,
+    asked: Asked,
+    file: &str,
+) -> anyhow::Result<()> {
+    let table = fs::read_to_string(rt, file)?;
+    for piece in table.split(BEHIND).skip(1) {
+        let (name, row) = piece.split_once('\n').unwrap_or((piece, ""));
+        let answer = answer_of(rt.alloc(), asked, row)?;
+        println!(rt; "{name}: {answer}")?;
+    }
+    Ok(())
+}
+
 // What is said of one row.
-fn answer_of(alloc: Global, row: &str) -> anyhow::Result<String> {
-    let (text, _modules) = row.split_once('\n').unwrap_or((row, ""));
-    let manifest = match read_manifest(alloc, text.as_bytes()) {
-        Ok(manifest) => manifest,
-        Err(fault) => return Ok(format!(in alloc; "{fault}")?),
-    };
-    match modules_of(alloc, row)? {
-        Some(modules) => match link(alloc, modules, &manifest) {
-            Ok(program) => program_text(alloc, &program),
-            Err(fault) => fault_text(alloc, &fault),
+fn answer_of(alloc: Global, asked: Asked, row: &str) -> anyhow::Result<String> {
+    match link_row(alloc, row)? {
+        Linked::Program(program) => match asked {
+            Asked::Items => program_text(alloc, &program),
+            Asked::Cycles => cycles_text(alloc, &program),
         },
-        None => Ok(String::from_str(alloc, "not sound")?),
+        Linked::Refused(fault) => fault_text(alloc, &fault),
+        Linked::NotSound => Ok(String::from_str(alloc, "not sound")?),
+        Linked::NoManifest(why) => Ok(why),
     }
 }

@@ -8,7 +8,7 @@ use linker::LinkFault;
 use std::alloc::Global;
 
 /// A name, where a byte that isn't a letter, a digit or a mark of ASCII is two digits behind a backslash.
-fn name_text(alloc: Global, name: &[u8]) -> anyhow::Result<String> {
+pub(crate) fn name_text(alloc: Global, name: &[u8]) -> anyhow::Result<String> {
     let mut text = String::new(alloc);
     for byte in name {
         if byte.is_ascii_graphic() {
@@ -68,7 +68,7 @@ fn known_text(alloc: Global, known: &Known) -> anyhow::Result<String> {
     }
 }
 
-fn name_of(item: &Item) -> &[u8] {
+pub(crate) fn name_of(item: &Item) -> &[u8] {
     match item {
         Item::Var(var) => var.name.as_slice(),
         Item::Func(func) => func.name.as_slice(),

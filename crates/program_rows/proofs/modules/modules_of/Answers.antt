@@ -3,7 +3,7 @@ use Rattle.std.specs.List.{All}
 use Rattle.std.proofs.lemmas.List.Elements.{All-push}
 use Rattle.ir_syntax.specs.declared.item.Module.{Module}
 use Rattle.ir_syntax.specs.Programs.{IsSoundModule}
-use Rattle.link_rows.proofs.sound.modules_of.Goals as goal
+use Rattle.program_rows.proofs.modules.modules_of.Goals as goal
 
 pub loop-text-preserved : goal.loop-text-preserved
 loop-text-preserved c = record {

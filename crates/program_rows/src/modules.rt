@@ -1,4 +1,4 @@
-//! Modules that the readers and both checks accept.
+//! Modules that the reader and both checks accept.
 ghost use Rattle.std.specs.Prelude.{◌<◌, ◌^◌, IfOk, IfSome, length};
 ghost use Rattle.ir_syntax.specs.Programs.{IsSoundModule, AreSoundModules};
 
