@@ -24,6 +24,7 @@ pub use fault::LinkFault;
 use ir_syntax::{Module, Program};
 pub use laws::{a_linked_program_is_not_refused, a_refusal_is_one};
 use manifest::Manifest;
+pub use shapes::entry_arguments;
 use sqlite_items::Items as List;
 use std::alloc::Global;
 

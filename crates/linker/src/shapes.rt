@@ -1,5 +1,5 @@
 //! The shapes of functions, and what is known of the arguments of an entry.
-ghost use Rattle.std.specs.Prelude.{◌≡◌, ◌≢◌, ◌↔◌, ◌-◌, ◌^◌, ◌≤ℤ◌, pos, length, IsTrue, IfOk, All};
+ghost use Rattle.std.specs.Prelude.{◌≡◌, ◌≢◌, ◌↔◌, ◌-◌, ◌^◌, ◌≤ℤ◌, pos, length, IsTrue, IfOk, MatchOption, All};
 ghost use Rattle.std.specs.List.{AllZip};
 ghost use Rattle.ir_types.specs.Scalars.{integer_modulo, least_signed, width};
 ghost use Rattle.ir_types.specs.declared.scalar.Scalar.TheVariants.{Ptr};
@@ -93,6 +93,22 @@ pub(crate) fn fits_entry(func: &Func, args: &[Option<i128>]) -> bool
     ensures { IsTrue result ↔ FitsEntry args.now func.now }
 {
     has_plain_shape(func) && are_arguments_of(func.params.as_slice(), args)
+}
+
+/// What is known of the arguments of a function that is entered with these: of each integer its number modulo 2^w. `None`
+/// comes where they don't fit: a parameter or the result is a pointer, there isn't one argument for each parameter, or one
+/// isn't from -2^(w-1) to 2^w - 1. The error is want of memory.
+pub fn entry_arguments(
+    alloc: Global,
+    func: &Func,
+    args: &[Option<i128>],
+) -> Result<Option<List<Known>>, OutOfMemory>
+    ensures { IfOk result (λ found. MatchOption found (FitsEntry args.now func.now → ⊥) (λ known. FitsEntry args.now func.now × (known ≡ known_of_all func.now.params args.now))) }
+{
+    if !fits_entry(func, args) {
+        return Ok(None);
+    }
+    Ok(Some(arguments_of(alloc, func.params.as_slice(), args)?))
 }
 
 /// The number modulo 2^w.

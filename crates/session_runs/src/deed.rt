@@ -10,9 +10,10 @@ use ir_syntax::{Builtin, SymName};
 use ir_types::{Bytes, OutOfMemory, Scalar};
 use std::alloc::Global;
 
-/// Memory; bytes to be written, with what is returned; a byte to be read; or what this world doesn't know.
+/// What a call asks of the small world: memory; bytes to be written, with what is returned; a byte to be read; or what that
+/// world doesn't know.
 #[derive(Debug, Drop)]
-pub(crate) enum Deed {
+pub enum Deed {
     Grants,
     Writes(Bytes, u64),
     Reads,

@@ -14,7 +14,9 @@ mod tiny;
 mod worked;
 mod world;
 
+pub use deed::Deed;
 pub use laws::run_goes_on;
+pub use pending::Pending;
 pub use plays::{Played, play};
 pub use running::run_session;
 pub use session::{Event, Phase, Root, Run, Session};

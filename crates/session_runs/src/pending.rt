@@ -5,9 +5,9 @@ use ir_types::OutOfMemory;
 use std::alloc::Global;
 use std::marker::Model;
 
-/// Bytes that wait, which contracts see as their list. Those in front go first.
+/// Bytes that wait to be written, which contracts see as their list. Those in front go first.
 #[derive(Drop)]
-pub(crate) struct Pending {
+pub struct Pending {
     bytes: Vec<u8>,
     from: usize,
 }
@@ -24,7 +24,7 @@ impl Model for Pending {
 
 impl Pending {
     /// None.
-    pub(crate) fn new(alloc: Global) -> Pending
+    pub fn new(alloc: Global) -> Pending
         ensures { result ≡ [] }
     {
         Pending {

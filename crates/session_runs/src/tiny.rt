@@ -21,22 +21,23 @@ const ROOM: usize = 4096;
 pub struct TinyWorld<'w, I: Source, O: Sink> {
     source: &'w mut I,
     sink: &'w mut O,
-    pending: Pending,
+    pending: &'w mut Pending,
 }
 
 impl<'w, I: Source, O: Sink> TinyWorld<'w, I, O> {
-    /// The world over a source and a sink. Nothing waits.
-    pub fn new(alloc: Global, source: &'w mut I, sink: &'w mut O) -> TinyWorld<'w, I, O>
+    /// The world over a source and a sink. What waits to be written stands in `pending`, which its caller lends.
+    pub fn new(source: &'w mut I, sink: &'w mut O, pending: &'w mut Pending) -> TinyWorld<'w, I, O>
         ensures same_source { result.source.ghost_name ≡ source.entry.ghost_name }
         ensures same_sink { result.sink.ghost_name ≡ sink.entry.ghost_name }
+        ensures same_pending { result.pending.ghost_name ≡ pending.entry.ghost_name }
         ensures source { result.source.now ≡ source.old }
         ensures sink { result.sink.now ≡ sink.old }
-        ensures none_waits { result.pending ≡ [] }
+        ensures pending { result.pending.now ≡ pending.old }
     {
         TinyWorld {
             source,
             sink,
-            pending: Pending::new(alloc),
+            pending,
         }
     }
 
@@ -44,9 +45,10 @@ impl<'w, I: Source, O: Sink> TinyWorld<'w, I, O> {
     pub fn flush(&mut self) -> Result<(), Fault>
         ensures same_source { self.new.source.ghost_name ≡ self.old.source.ghost_name }
         ensures same_sink { self.new.sink.ghost_name ≡ self.old.sink.ghost_name }
+        ensures same_pending { self.new.pending.ghost_name ≡ self.old.pending.ghost_name }
         ensures source { self.new.source.now ≡ self.old.source.now }
-        ensures written { Written (O.taken self.old.sink.now) (O.taken self.new.sink.now) self.old.pending self.new.pending [] }
-        ensures none_waits { OnOk result (self.new.pending ≡ []) }
+        ensures written { Written (O.taken self.old.sink.now) (O.taken self.new.sink.now) self.old.pending.now self.new.pending.now [] }
+        ensures none_waits { OnOk result (self.new.pending.now ≡ []) }
         ensures failed { result ≡ Err Fault.Failed → Rose (O.faults self.old.sink.now) (O.faults self.new.sink.now) }
         ensures quiet { result ≢ Err Fault.Failed → O.faults self.new.sink.now ≡ O.faults self.old.sink.now }
     {
@@ -64,10 +66,11 @@ impl<'w, I: Source, O: Sink> TinyWorld<'w, I, O> {
     fn write(&mut self, text: &[u8]) -> Result<(), WorldFault>
         ensures same_source { self.new.source.ghost_name ≡ self.old.source.ghost_name }
         ensures same_sink { self.new.sink.ghost_name ≡ self.old.sink.ghost_name }
+        ensures same_pending { self.new.pending.ghost_name ≡ self.old.pending.ghost_name }
         ensures source { self.new.source.now ≡ self.old.source.now }
-        ensures written { OnOk result (Written (O.taken self.old.sink.now) (O.taken self.new.sink.now) self.old.pending self.new.pending text.now) }
-        ensures broke { OnErr result (BreaksAt text.now (record { left = I.left self.old.source.now; taken = O.taken self.old.sink.now; pending = self.old.pending })
-            (record { left = I.left self.new.source.now; taken = O.taken self.new.sink.now; pending = self.new.pending })) }
+        ensures written { OnOk result (Written (O.taken self.old.sink.now) (O.taken self.new.sink.now) self.old.pending.now self.new.pending.now text.now) }
+        ensures broke { OnErr result (BreaksAt text.now (record { left = I.left self.old.source.now; taken = O.taken self.old.sink.now; pending = self.old.pending.now })
+            (record { left = I.left self.new.source.now; taken = O.taken self.new.sink.now; pending = self.new.pending.now })) }
         ensures source_fault { result ≢ Err WorldFault.Source }
         ensures sink_rose { result ≡ Err WorldFault.Sink → Rose (O.faults self.old.sink.now) (O.faults self.new.sink.now) }
         ensures sink_stays { result ≢ Err WorldFault.Sink → O.faults self.new.sink.now ≡ O.faults self.old.sink.now }
@@ -83,9 +86,10 @@ impl<'w, I: Source, O: Sink> TinyWorld<'w, I, O> {
     fn pass(&mut self) -> Result<(), WorldFault>
         ensures same_source { self.new.source.ghost_name ≡ self.old.source.ghost_name }
         ensures same_sink { self.new.sink.ghost_name ≡ self.old.sink.ghost_name }
+        ensures same_pending { self.new.pending.ghost_name ≡ self.old.pending.ghost_name }
         ensures source { self.new.source.now ≡ self.old.source.now }
-        ensures written { Written (O.taken self.old.sink.now) (O.taken self.new.sink.now) self.old.pending self.new.pending [] }
-        ensures none_waits { OnOk result (self.new.pending ≡ []) }
+        ensures written { Written (O.taken self.old.sink.now) (O.taken self.new.sink.now) self.old.pending.now self.new.pending.now [] }
+        ensures none_waits { OnOk result (self.new.pending.now ≡ []) }
         ensures source_fault { result ≢ Err WorldFault.Source }
         ensures sink_rose { result ≡ Err WorldFault.Sink → Rose (O.faults self.old.sink.now) (O.faults self.new.sink.now) }
         ensures sink_stays { result ≢ Err WorldFault.Sink → O.faults self.new.sink.now ≡ O.faults self.old.sink.now }
@@ -101,8 +105,9 @@ impl<'w, I: Source, O: Sink> TinyWorld<'w, I, O> {
     fn read(&mut self) -> Result<u64, WorldFault>
         ensures same_source { self.new.source.ghost_name ≡ self.old.source.ghost_name }
         ensures same_sink { self.new.sink.ghost_name ≡ self.old.sink.ghost_name }
+        ensures same_pending { self.new.pending.ghost_name ≡ self.old.pending.ghost_name }
         ensures sink { self.new.sink.now ≡ self.old.sink.now }
-        ensures pending { self.new.pending ≡ self.old.pending }
+        ensures pending { self.new.pending.now ≡ self.old.pending.now }
         ensures read { IfOk result (λ byte. ReadFrom (I.left self.old.source.now) (I.left self.new.source.now) byte) }
         ensures left { OnErr result (I.left self.new.source.now ≡ I.left self.old.source.now) }
         ensures fault { OnErr result (result ≡ Err WorldFault.Source) }
@@ -130,12 +135,14 @@ fn number_reply(alloc: Global, number: u64) -> Reply
 
 impl<'w, I: Source, O: Sink> World for TinyWorld<'w, I, O> {
     ghost answers = { λ w call reply u. (u.source.ghost_name ≡ w.source.ghost_name) × (u.sink.ghost_name ≡ w.sink.ghost_name)
-        × AnswersAs (tiny.deed call) (record { left = I.left w.source.now; taken = O.taken w.sink.now; pending = w.pending }) reply
-        (record { left = I.left u.source.now; taken = O.taken u.sink.now; pending = u.pending }) };
+        × (u.pending.ghost_name ≡ w.pending.ghost_name)
+        × AnswersAs (tiny.deed call) (record { left = I.left w.source.now; taken = O.taken w.sink.now; pending = w.pending.now }) reply
+        (record { left = I.left u.source.now; taken = O.taken u.sink.now; pending = u.pending.now }) };
 
     ghost breaks = { λ w call u. (u.source.ghost_name ≡ w.source.ghost_name) × (u.sink.ghost_name ≡ w.sink.ghost_name)
-        × BreaksAt (text_written (tiny.deed call)) (record { left = I.left w.source.now; taken = O.taken w.sink.now; pending = w.pending })
-        (record { left = I.left u.source.now; taken = O.taken u.sink.now; pending = u.pending }) };
+        × (u.pending.ghost_name ≡ w.pending.ghost_name)
+        × BreaksAt (text_written (tiny.deed call)) (record { left = I.left w.source.now; taken = O.taken w.sink.now; pending = w.pending.now })
+        (record { left = I.left u.source.now; taken = O.taken u.sink.now; pending = u.pending.now }) };
 
     ghost source_faults = { λ w. I.faults w.source.now };
 

@@ -6,8 +6,8 @@ use Rattle.session_runs.proofs.tiny.TinyWorld.write.Goals as goal
 pub returns-then-as_slice-ge-ROOM-clause-broke : goal.returns-then-as_slice-ge-ROOM-clause-broke
 returns-then-as_slice-ge-ROOM-clause-broke g c =
     on_err c.pass.result (breaks_behind c.args.text.now
-    (record { left = g.I.Source.left c.args.self.now.source.now; taken = g.O.Sink.taken c.args.self.now.sink.now; pending = c.args.self.now.pending })
-    (record { left = g.I.Source.left c.pass.new.self.source.now; taken = g.O.Sink.taken c.pass.new.self.sink.now; pending = c.pass.new.self.pending })
-    (goes_behind (g.O.Sink.taken c.args.self.now.sink.now) (g.O.Sink.taken c.pass.new.self.sink.now) c.args.self.now.pending c.append.new.self c.pass.new.self.pending c.args.text.now
+    (record { left = g.I.Source.left c.args.self.now.source.now; taken = g.O.Sink.taken c.args.self.now.sink.now; pending = c.args.self.now.pending.now })
+    (record { left = g.I.Source.left c.pass.new.self.source.now; taken = g.O.Sink.taken c.pass.new.self.sink.now; pending = c.pass.new.self.pending.now })
+    (goes_behind (g.O.Sink.taken c.args.self.now.sink.now) (g.O.Sink.taken c.pass.new.self.sink.now) c.args.self.now.pending.now c.append.new.self c.pass.new.self.pending.now c.args.text.now
     c.in_ok-append.ensures.ok c.pass.ensures.written)
     (ap g.I.Source.left c.pass.ensures.source))
