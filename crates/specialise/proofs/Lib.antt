@@ -1,0 +1,11 @@
+pub mod Bodies
+pub mod Edging
+pub mod Entering
+pub mod Listing
+pub mod Masking
+pub mod Ordered
+pub mod Rows
+pub mod Shown
+pub mod Solving
+pub mod Sorted
+pub mod Unique
