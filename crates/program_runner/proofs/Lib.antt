@@ -1,0 +1,6 @@
+mod Entries
+mod Filling
+mod Gives
+mod Ends
+mod Played
+mod Texts
