@@ -35,8 +35,12 @@ fn known_text(alloc: Global, known: Known) -> anyhow::Result<String> {
     }
 }
 
-// A demand: of a function with what is known of its parameters.
-fn demand_text(alloc: Global, program: &Program, demand: &Demand) -> anyhow::Result<String> {
+/// A demand: of a function with what is known of its parameters.
+pub(crate) fn demand_text(
+    alloc: Global,
+    program: &Program,
+    demand: &Demand,
+) -> anyhow::Result<String> {
     match demand {
         Demand::Func { func, pattern } => {
             let mut text = symbol_text(alloc, program, *func)?;

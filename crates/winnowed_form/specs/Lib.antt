@@ -1,0 +1,10 @@
+pub mod Basis
+pub mod Bodies
+pub mod Clashes
+pub mod Conditions
+pub mod Copies
+pub mod Items
+pub mod Members
+pub mod Names
+pub mod Ordered
+pub mod Winnowed
