@@ -34,8 +34,8 @@ use Rattle.program_loader.specs.declared.refusal.Refusal.{Refusal}
 use Rattle.occam_tool.specs.declared.job.Report.{Report}
 use Rattle.occam_tool.specs.Entering.{IsKnownWord, AreWords}
 use Rattle.occam_tool.specs.Manifests.{IsWord, known_arg}
-use Rattle.occam_tool.specs.Words.{command_of}
-use Rattle.occam_tool.specs.Words.Command.{Winnow}
+use Rattle.command_words.specs.Words.{command_of}
+use Rattle.command_words.specs.Words.Command.{Winnow}
 use Rattle.occam_tool.specs.Lines.{answer_code}
 use Rattle.occam_tool.specs.Outcome.{Outputs, NamesModule, Reads, Winnows, RefusesManifest, RefusesModule, RefusesPlan, start_of, put_all}
 use Rattle.occam_tool.specs.Outcome.Winnows.{ManifestRefused, ModuleRefused, PlanRefused, Written}

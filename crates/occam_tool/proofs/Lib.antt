@@ -14,3 +14,4 @@ pub mod LeftNames
 pub mod Roots
 pub mod KeptPrograms
 pub mod PlanOfEntry
+pub mod RunOutcomes

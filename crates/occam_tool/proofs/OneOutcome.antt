@@ -1,5 +1,5 @@
 -- The outcome of the words is one.
-use Rattle.std.proofs.Common.{◌≡◌, ◌∙◌, ℕ, List, [], ◌∷◌, length, map, Option, Some, None, Result, Ok, Err, sym, ap, subst}
+use Rattle.std.proofs.Common.{◌≡◌, ◌∙◌, ℕ, ℤ, List, [], ◌∷◌, length, map, Option, Some, None, Result, Ok, Err, sym, ap, subst}
 use Rattle.ir_types.specs.declared.scalar.Known.{Known}
 use Rattle.manifest.specs.declared.fault.Manifest.{Manifest}
 use Rattle.manifest.specs.Manifest.{HasManifest}
@@ -27,10 +27,10 @@ use Rattle.program_loader.specs.Loading.{IsLoaded, RefusesLoading}
 use Rattle.occam_tool.specs.declared.job.Checked.{Checked}
 use Rattle.occam_tool.specs.Counts.{counts_of}
 use Rattle.occam_tool.specs.Checkings.{Checks}
-use Rattle.occam_tool.specs.Words.{Command, command_of}
-use Rattle.occam_tool.specs.Words.Command.{Winnow, Check}
+use Rattle.command_words.specs.Words.{Command, command_of, IsRun}
+use Rattle.command_words.specs.Words.Command.{Winnow, Check, Run}
 use Rattle.occam_tool.specs.Program.{IsOutcome}
-use Rattle.occam_tool.specs.Program.IsOutcome.{OfNoCommand, OfWinnow, OfCheck}
+use Rattle.occam_tool.specs.Program.IsOutcome.{OfNoCommand, OfWinnow, OfCheck, OfRun}
 
 -- the laws that it rests on
 pub record OneLaws : Type 0 where
@@ -223,11 +223,13 @@ manifest_of : Option Command → List ℕ
 manifest_of None = []
 manifest_of (Some (Winnow m o)) = m
 manifest_of (Some (Check m)) = m
+manifest_of (Some (Run m n z)) = m
 
 folder_of : Option Command → List ℕ
 folder_of None = []
 folder_of (Some (Winnow m o)) = o
 folder_of (Some (Check m)) = []
+folder_of (Some (Run m n z)) = []
 
 same_winnow : OneLaws → (files : FileMap) (s t : Code) (o p : Outputs) (k l : List ℕ) (m d n e : List ℕ) (a b : Result Report Refusal) → m ≡ n → d ≡ e
     → Winnows files m d a o → Winnows files n e b p → s ≡ answer_code a → t ≡ answer_code b → k ≡ winnow_line a → l ≡ winnow_line b → SameOutcome s t o p k l
@@ -242,18 +244,24 @@ same_check laws files s t o p k l m n a b names x y oe pe sa tb ka lb =
     let same = one_checking laws files m a b x (subst (λ c. Checks files c b) (sym names) y) in
     (sa ∙ ap answer_code same ∙ sym tb, oe ∙ sym pe, ka ∙ ap check_line same ∙ sym lb)
 
-pub one_outcome : OneLaws → (words : List (List ℕ)) (files : FileMap) (s t : Code) (o p : Outputs) (k l : List ℕ) → IsOutcome words files s o k → IsOutcome words files t p l
+not_run : {P : Type 0} → (words : List (List ℕ)) (m : List ℕ) (n : ℕ) (z : List ℤ) → (IsRun (command_of words) → ⊥) → command_of words ≡ Some (Run m n z) → P
+not_run words m n z other e = absurd (other (subst IsRun (sym e) tt))
+
+pub one_outcome : OneLaws → (words : List (List ℕ)) (files : FileMap) (source : Option (List ℕ)) (s t : Code) (o p : Outputs) (k l : List ℕ) → (IsRun (command_of words) → ⊥)
+    → IsOutcome words files source s o k → IsOutcome words files source t p l
     → (s ≡ t) × (o ≡ p) × (k ≡ l)
 unfolding manifest_of folder_of
-one_outcome laws words files s t o p k l (OfNoCommand c se oe ke) (OfNoCommand d te pe le) = (se ∙ sym te, oe ∙ sym pe, ke ∙ sym le)
-one_outcome laws words files s t o p k l (OfNoCommand c se oe ke) (OfWinnow n e b d y te le) = absurd (let clash : None ≡ Some (Winnow n e) = sym c ∙ d in cc)
-one_outcome laws words files s t o p k l (OfNoCommand c se oe ke) (OfCheck n b d y pe te le) = absurd (let clash : None ≡ Some (Check n) = sym c ∙ d in cc)
-one_outcome laws words files s t o p k l (OfWinnow m f a c x se ke) (OfNoCommand d te pe le) = absurd (let clash : None ≡ Some (Winnow m f) = sym d ∙ c in cc)
-one_outcome laws words files s t o p k l (OfWinnow m f a c x se ke) (OfWinnow n e b d y te le) =
+one_outcome laws words files source s t o p k l other (OfNoCommand c se oe ke) (OfNoCommand d te pe le) = (se ∙ sym te, oe ∙ sym pe, ke ∙ sym le)
+one_outcome laws words files source s t o p k l other (OfNoCommand c se oe ke) (OfWinnow n e b d y te le) = absurd (let clash : None ≡ Some (Winnow n e) = sym c ∙ d in cc)
+one_outcome laws words files source s t o p k l other (OfNoCommand c se oe ke) (OfCheck n b d y pe te le) = absurd (let clash : None ≡ Some (Check n) = sym c ∙ d in cc)
+one_outcome laws words files source s t o p k l other (OfWinnow m f a c x se ke) (OfNoCommand d te pe le) = absurd (let clash : None ≡ Some (Winnow m f) = sym d ∙ c in cc)
+one_outcome laws words files source s t o p k l other (OfWinnow m f a c x se ke) (OfWinnow n e b d y te le) =
     let same = one_command words (Some (Winnow m f)) (Some (Winnow n e)) c d in
     same_winnow laws files s t o p k l m f n e a b (ap manifest_of same) (ap folder_of same) x y se te ke le
-one_outcome laws words files s t o p k l (OfWinnow m f a c x se ke) (OfCheck n b d y pe te le) = absurd (let clash : Some (Winnow m f) ≡ Some (Check n) = sym c ∙ d in cc)
-one_outcome laws words files s t o p k l (OfCheck m a c x oe se ke) (OfNoCommand d te pe le) = absurd (let clash : None ≡ Some (Check m) = sym d ∙ c in cc)
-one_outcome laws words files s t o p k l (OfCheck m a c x oe se ke) (OfWinnow n e b d y te le) = absurd (let clash : Some (Check m) ≡ Some (Winnow n e) = sym c ∙ d in cc)
-one_outcome laws words files s t o p k l (OfCheck m a c x oe se ke) (OfCheck n b d y pe te le) =
+one_outcome laws words files source s t o p k l other (OfWinnow m f a c x se ke) (OfCheck n b d y pe te le) = absurd (let clash : Some (Winnow m f) ≡ Some (Check n) = sym c ∙ d in cc)
+one_outcome laws words files source s t o p k l other (OfCheck m a c x oe se ke) (OfNoCommand d te pe le) = absurd (let clash : None ≡ Some (Check m) = sym d ∙ c in cc)
+one_outcome laws words files source s t o p k l other (OfCheck m a c x oe se ke) (OfWinnow n e b d y te le) = absurd (let clash : Some (Check m) ≡ Some (Winnow n e) = sym c ∙ d in cc)
+one_outcome laws words files source s t o p k l other (OfCheck m a c x oe se ke) (OfCheck n b d y pe te le) =
     same_check laws files s t o p k l m n a b (ap manifest_of (one_command words (Some (Check m)) (Some (Check n)) c d)) x y oe pe se te ke le
+one_outcome laws words files source s t o p k l other (OfRun m n z a x c r oe se ke) second = not_run words m n z other c
+one_outcome laws words files source s t o p k l other first (OfRun m n z a x c r oe se ke) = not_run words m n z other c

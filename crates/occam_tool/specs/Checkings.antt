@@ -8,9 +8,10 @@ use Rattle.manifest.specs.declared.fault.Manifest.{Manifest}
 use Rattle.ir_syntax.specs.Programs.{ProgramData}
 use Rattle.program_loader.specs.declared.refusal.Refusal.{Refusal}
 use Rattle.program_loader.specs.Loading.{IsLoaded, RefusesLoading}
+use Rattle.program_runner.specs.Running.{Took}
 use Rattle.occam_tool.specs.declared.job.Checked.{Checked}
 use Rattle.occam_tool.specs.Counts.{counts_of}
-use Rattle.occam_tool.specs.Lines.{answer_code, check_line, TakesLine}
+use Rattle.occam_tool.specs.Lines.{answer_code, check_line}
 
 -- The files give a program, and these are its counts.
 pub record IsChecked (files : FileMap) (manifest : List ℕ) (counts : Checked) : Type 0 where
@@ -29,4 +30,4 @@ pub record CheckEnds (files : FileMap) (files_new : Option FileMap) (manifest : 
   pub checks : Checks files manifest answer
   pub files_are : files_new ≡ Some files
   pub status_is : status ≡ answer_code answer
-  pub taken_is : (status ≡ code.Done) ⊎ (Rose faults faults_new → ⊥) → TakesLine taken taken_new (check_line answer)
+  pub taken_is : (status ≡ code.Done) ⊎ (Rose faults faults_new → ⊥) → Took taken taken_new (check_line answer)

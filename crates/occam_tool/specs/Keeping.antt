@@ -13,8 +13,8 @@ use Rattle.straight_meaning.specs.declared.session.Session.{Session}
 use Rattle.straight_meaning.specs.declared.session.Phase.TheVariants as phase
 use Rattle.straight_meaning.specs.Run.{Moment, moment, run, Conforms, begun}
 use Rattle.straight_meaning.specs.Kept.{Agree, kept_steps, longest_block}
-use Rattle.occam_tool.specs.Words.{command_of}
-use Rattle.occam_tool.specs.Words.Command.{Winnow}
+use Rattle.command_words.specs.Words.{command_of}
+use Rattle.command_words.specs.Words.Command.{Winnow}
 use Rattle.occam_tool.specs.Outcome.{NamesModule, Reads, start_of, output_name}
 
 pub record Keeps (words : List (List ℕ)) (files : FileMap) (files_new : Option FileMap) : Type 0 where

@@ -7,8 +7,7 @@ pub mod Names
 pub mod Outcome
 pub mod Printing
 pub mod Program
+pub mod Runnings
 pub mod Steps
 pub mod Winnowings
-pub mod Told
-pub mod Words
 pub mod Entering

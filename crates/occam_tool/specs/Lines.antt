@@ -1,5 +1,5 @@
 -- The lines that the program prints.
-use Rattle.std.specs.Prelude.{◌≡◌, ℕ, List, [], ◌∷◌, ◌++◌, codes, Option, None, Some, Result, Ok, Err}
+use Rattle.std.specs.Prelude.{ℕ, List, [], ◌∷◌, ◌++◌, codes, Result, Ok, Err}
 use Rattle.std.specs.Fmt.{decimal}
 use Rattle.occam_base.specs.declared.code.Code.{Code}
 use Rattle.occam_base.specs.declared.code.Code.TheVariants as code
@@ -7,6 +7,8 @@ use Rattle.manifest.specs.Manifest.{key_word}
 use Rattle.program_loader.specs.declared.refusal.Detail.{Detail}
 use Rattle.program_loader.specs.declared.refusal.Detail.TheVariants as detail
 use Rattle.program_loader.specs.declared.refusal.Refusal.{Refusal}
+use Rattle.program_runner.specs.declared.ended.Ended.{Ended}
+use Rattle.program_runner.specs.Lines.{ended_line}
 use Rattle.occam_tool.specs.declared.job.Report.{Report}
 use Rattle.occam_tool.specs.declared.job.Checked.{Checked}
 
@@ -74,11 +76,11 @@ abbrev pub check_line : Result Checked Refusal → List ℕ
 check_line (Ok counts) = checked_line counts
 check_line (Err refusal) = refusal_line refusal
 
+-- the last line of what `run` answers
+abbrev pub run_line : Result Ended Refusal → List ℕ
+run_line (Ok ended) = ended_line ended
+run_line (Err refusal) = refusal_line refusal
+
 abbrev pub answer_code : {X : Type 0} → Result X Refusal → Code
 answer_code (Ok x) = code.Done
 answer_code (Err refusal) = refusal.code
-
--- the sink, where it tells, took just this more
-abbrev pub TakesLine : Option (List ℕ) → Option (List ℕ) → List ℕ → Type 0
-TakesLine None new line = Unit {0}
-TakesLine (Some taken) new line = new ≡ Some (taken ++ line)

@@ -13,15 +13,16 @@ mod path;
 mod plan;
 mod print;
 mod refusing;
+mod running;
 mod tally;
 mod telling;
 mod top;
 mod winnowing;
-mod words;
 
 pub use checking::check;
 pub use job::{Checked, Job, Report};
 pub use laws::outcome_is_one;
 pub use program_loader::{Detail, Refusal};
+pub use program_runner::{Ended, run};
 pub use top::tool;
 pub use winnowing::winnow;

@@ -3,7 +3,8 @@
 //!     == NAME            a case begins
 //!     words WORD ..      the words, without the program's name
 //!     fails read FILE    the first read of that file fails, and likewise `put FILE`
-//!     fails print        the first write of the sink fails
+//!     fails print N      the write of the sink with that number, from 1 on, fails, and likewise `source N` of the source's reads
+//!     given TEXT         what the source holds
 //!     file FILE          a file that is there, whose lines follow, each behind a bar
 //!     |TEXT              a line of the file
 //!     repeat N TEXT      the text so many times in the file, with a number from 0 on in the place of each `#`
@@ -19,7 +20,9 @@ pub struct Case {
     pub words: Vec<String>,
     pub files: Vec<File>,
     pub fails: List<(Act, Bytes, u64)>,
-    pub print_fails: bool,
+    pub given: Bytes,
+    pub source_fails: List<u64>,
+    pub print_fails: List<u64>,
 }
 
 /// A file that is there at the start.
@@ -39,7 +42,9 @@ pub fn cases_of(alloc: Global, table: &str) -> anyhow::Result<Vec<Case>> {
                 words: Vec::new(alloc),
                 files: Vec::new(alloc),
                 fails: List::new(alloc),
-                print_fails: false,
+                given: Bytes::new(alloc),
+                source_fails: List::new(alloc),
+                print_fails: List::new(alloc),
             })?;
         } else if let Some(case) = cases.last_mut() {
             add_line(alloc, case, line)?;
@@ -65,6 +70,7 @@ fn add_line(alloc: Global, case: &mut Case, line: &str) -> anyhow::Result<()> {
             }
         }
         "fails" => add_failing(alloc, case, rest)?,
+        "given" => case.given.append(rest.as_bytes())?,
         "file" => case.files.push(File {
             name: String::from_str(alloc, rest)?,
             bytes: Vec::new(alloc),
@@ -86,18 +92,18 @@ fn add_line(alloc: Global, case: &mut Case, line: &str) -> anyhow::Result<()> {
 
 fn add_failing(alloc: Global, case: &mut Case, text: &str) -> anyhow::Result<()> {
     let (word, name) = text.split_once(' ').unwrap_or((text, ""));
-    let act = match word {
-        "read" => Act::ReadAt,
-        "put" => Act::Put,
-        _ => {
-            case.print_fails = true;
-            return Ok(());
-        }
-    };
-    match Bytes::from_slice(alloc, name.as_bytes()) {
-        Ok(name) => Ok(case.fails.push((act, name, 1))?),
-        Err(e) => Err(e.into()),
+    match word {
+        "read" => add_act(alloc, case, Act::ReadAt, name),
+        "put" => add_act(alloc, case, Act::Put, name),
+        "source" => Ok(case.source_fails.push(name.parse::<u64>()?)?),
+        "print" => Ok(case.print_fails.push(name.parse::<u64>()?)?),
+        _ => anyhow::bail!("what fails?"),
     }
+}
+
+fn add_act(alloc: Global, case: &mut Case, act: Act, name: &str) -> anyhow::Result<()> {
+    let name = Bytes::from_slice(alloc, name.as_bytes())?;
+    Ok(case.fails.push((act, name, 1))?)
 }
 
 fn repeat(alloc: Global, file: &mut File, text: &str) -> anyhow::Result<()> {

@@ -20,6 +20,8 @@ pub fn print_case<R: Print + AllocGlobal + Threads + Sync>(
         words,
         files,
         fails,
+        given,
+        source_fails,
         print_fails,
     } = case;
     println!(rt; "== {name}")?;
@@ -29,8 +31,8 @@ pub fn print_case<R: Print + AllocGlobal + Threads + Sync>(
         return Ok(());
     }
     let mut shelf = MemShelf::new(alloc, held, fails);
-    let mut input = MemSource::new(alloc, Bytes::new(alloc), List::new(alloc));
-    let mut out = MemSink::new(alloc, first_fails(alloc, print_fails)?);
+    let mut input = MemSource::new(alloc, given, source_fails);
+    let mut out = MemSink::new(alloc, print_fails);
     let code = tool(
         rt,
         alloc,
@@ -79,12 +81,4 @@ fn entries_of(alloc: Global, files: &[File]) -> Result<List<(Bytes, Bytes)>, Out
         entries.push((name, Bytes::from_slice(alloc, file.bytes.as_slice())?))?;
     }
     Ok(entries)
-}
-
-fn first_fails(alloc: Global, fails: bool) -> Result<List<u64>, OutOfMemory> {
-    let mut numbers = List::new(alloc);
-    if fails {
-        numbers.push(1)?;
-    }
-    Ok(numbers)
 }

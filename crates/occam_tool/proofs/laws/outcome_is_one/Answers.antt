@@ -15,10 +15,10 @@ laws c = record {
 }
 
 pub returns-clause-status : goal.returns-clause-status
-returns-clause-status c = λ words files s t o p k l x y. (one_outcome (laws c) words files s t o p k l x y).0
+returns-clause-status c = λ words files source s t o p k l other x y. (one_outcome (laws c) words files source s t o p k l other x y).0
 
 pub returns-clause-outputs : goal.returns-clause-outputs
-returns-clause-outputs c = λ words files s t o p k l x y. (one_outcome (laws c) words files s t o p k l x y).1
+returns-clause-outputs c = λ words files source s t o p k l other x y. (one_outcome (laws c) words files source s t o p k l other x y).1
 
-pub returns-clause-line : goal.returns-clause-line
-returns-clause-line c = λ words files s t o p k l x y. (one_outcome (laws c) words files s t o p k l x y).2
+pub returns-clause-printed : goal.returns-clause-printed
+returns-clause-printed c = λ words files source s t o p k l other x y. (one_outcome (laws c) words files source s t o p k l other x y).2

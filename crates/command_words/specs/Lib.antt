@@ -1,0 +1,4 @@
+pub mod Mirrors
+pub mod Numbers
+pub mod Told
+pub mod Words
