@@ -1,0 +1,14 @@
+pub mod Tied
+pub mod Shown
+pub mod Seeking
+pub mod Filling
+pub mod Publishing
+pub mod Held
+pub mod Booking
+pub mod Homes
+pub mod Merging
+pub mod Fresh
+pub mod Words
+pub mod Counting
+pub mod Sounding
+pub mod Ending

@@ -1,0 +1,6 @@
+pub mod Answers
+pub mod Closing
+pub mod Merging
+pub mod Passes
+pub mod Seeking
+pub mod Ties

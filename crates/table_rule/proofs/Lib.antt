@@ -1,0 +1,13 @@
+pub mod Lists
+pub mod Rows
+pub mod Growing
+pub mod Pigeons
+pub mod Learning
+pub mod Drawing
+pub mod Storing
+pub mod Claiming
+pub mod Placing
+pub mod Seating
+pub mod Blank
+pub mod Bounds
+pub mod Allowed

@@ -1,0 +1,4 @@
+pub mod Layout
+pub mod Views
+pub mod Rule
+pub mod Tells
