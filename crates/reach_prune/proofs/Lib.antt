@@ -1,0 +1,13 @@
+pub mod Calling
+pub mod Choosing
+pub mod Clashing
+pub mod Counting
+pub mod Membering
+pub mod Moving
+pub mod Naming
+pub mod Noting
+pub mod Pieces
+pub mod Splitting
+pub mod There
+pub mod Winnowing
+pub mod Within
