@@ -1,3 +1,4 @@
+pub mod Again
 pub mod Calling
 pub mod Choosing
 pub mod Clashing

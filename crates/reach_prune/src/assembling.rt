@@ -1,5 +1,8 @@
 //! Assembling the winnowed modules of a set of demands.
-ghost use Rattle.std.specs.Prelude.{◌≡◌, ◌<◌, [], ◌∷◌, ◌++◌, List, All, IfOk, IfErr, OnOk, length};
+ghost use Rattle.std.specs.Prelude.{◌≡◌, ◌<◌, ◌+◌, ◌^◌, ℕ, [], ◌∷◌, ◌++◌, List, All, IfOk, IfErr, OnOk, length};
+ghost use Rattle.ir_syntax.specs.declared.item.Module.{Module};
+ghost use Rattle.ir_syntax.specs.Programs.{ProgramData, AreSoundModules, IsProgram, IsSoundModule, Linked};
+ghost use Rattle.ir_syntax.specs.Refusals.{Deployment, Rule, IsRefused};
 ghost use Rattle.demands.specs.Order.{symbol_of as symbol_in};
 ghost use Rattle.winnowed_form.specs.declared.member.Member as members_of_type;
 ghost use Rattle.winnowed_form.specs.Conditions.{AreNeededPieces, AreDemandPieces, HasWinnowed, IsCause};
@@ -17,6 +20,7 @@ use crate::modules::winnowed_module;
 use demand_core::Row;
 use ir_syntax::{Module, Program};
 use ir_types::{List, OutOfMemory};
+use linking_again::what_is_winnowed_links_again;
 use specialise::Piece;
 use std::alloc::Global;
 use winnowed_form::{Member, ShapeFault, Sort, Winnowed};
@@ -96,6 +100,7 @@ fn winnowed(alloc: Global, g: &Grounds<'_>, members: Vec<Member>) -> Result<Winn
 
 fn assembled(alloc: Global, p: &Program, pieces: List<(Row, Piece)>) -> Result<Winnowed, ShapeFault>
     requires pieces { All (IsSoundPair p.now) pieces }
+    ensures program { IfOk result (λ w. IsProgram p.now) }
     ensures winnowed { IfOk result (HasWinnowed p.now pieces) }
     ensures clash { IfErr result (IsCause p.now pieces) }
 {
@@ -132,7 +137,14 @@ pub fn assemble(
     requires pieces { AreNeededPieces p.now pieces }
     ensures winnowed { IfOk result (HasWinnowed p.now pieces) }
     ensures clash { IfErr result (IsCause p.now pieces) }
+    // Each module is formed, well typed and definite; and where each has few enough items for symbols, they can be linked.
+    ensures sound { IfOk result (λ w. All IsSoundModule w.modules) }
+    ensures linkable { IfOk result (λ w. All (λ (m : Module). length m.items + length pieces < 2 ^ 32) p.now.modules → AreSoundModules w.modules) }
+    // For each deployment for which the program is linked, they are linked to a program of their own, and no name is refused.
+    ensures linked { IfOk result (λ w. (d : Deployment) → Linked p.now.modules d p.now → (q : ProgramData) × Linked w.modules d q) }
+    ensures not_refused { IfOk result (λ w. (d : Deployment) (rule : Rule) (name : List ℕ) → Linked p.now.modules d p.now → IsRefused w.modules d rule name → ⊥) }
 {
+    what_is_winnowed_links_again();
     assembled(alloc, p, pieces)
 }
 

@@ -23,6 +23,11 @@ winnowed-requires c =
       writable = members_writable (shown c.in-Ok.g) c.args.p.now c.args.pieces c.in-Ok-members_of.members.items same (subst IsProgram same c.check_names.ensures.program) c.requires.pieces c.in-Ok-members_of.ensures;
     }
 
+pub returns-in-Ok-winnowed-clause-program : goal.returns-in-Ok-winnowed-clause-program
+returns-in-Ok-winnowed-clause-program c =
+    let same : c.in-Ok.g.program.now ≡ c.args.p.now = ap (λ (b : Basis). b.program) c.in-Ok.ensures.basis in
+    subst IsProgram same c.check_names.ensures.program
+
 pub returns-in-Ok-winnowed-clause-winnowed : goal.returns-in-Ok-winnowed-clause-winnowed
 returns-in-Ok-winnowed-clause-winnowed c =
     let same : c.in-Ok.g.program.now ≡ c.args.p.now = ap (λ (b : Basis). b.program) c.in-Ok.ensures.basis in

@@ -1,0 +1,4 @@
+pub mod Suits
+pub mod Readings
+pub mod Frames
+pub mod Views
